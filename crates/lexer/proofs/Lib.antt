@@ -1,0 +1,4 @@
+pub mod Limits
+pub mod Looks
+pub mod Parts
+mod Samples

@@ -1,0 +1,3 @@
+// Written formulas as lists of nodes, parts before wholes.
+pub mod node;
+pub mod syntax;

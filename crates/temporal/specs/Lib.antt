@@ -1,0 +1,5 @@
+pub mod Formula
+pub mod Written
+pub mod Parts
+pub mod Game
+pub mod Laws
