@@ -1,0 +1,5 @@
+pub mod Grammar
+pub mod Numbering
+pub mod Refusals
+pub mod Sections
+pub mod Shows
