@@ -1,0 +1,11 @@
+use mathlib.Core.Path.{_≡_, ap, _∙_}
+use mathlib.Core.Bool.{_||_}
+use Rattle.lexer.specs.Tokens.{isLine, isEnd}
+use Rattle.grammar.specs.Sections.{expected, isThis, isTrue, lastIn}
+use Rattle.parser.proofs.lines.expect_last.Needs as need
+
+pub returns : need.returns
+unfolding lastIn
+returns c =
+    c .expected .ensures ∙ ap (λ b. expected b (c .look-seen .result)) (c .is-last .ensures)
+    ∙ ap (λ x. expected (isLine (x .token) || isEnd (x .token)) x) (c .look-seen .ensures .value)
