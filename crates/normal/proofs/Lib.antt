@@ -1,0 +1,7 @@
+mod Filled
+mod Folding
+mod Places
+mod Adding
+mod Entering
+mod Forms
+mod Whole

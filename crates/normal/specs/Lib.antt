@@ -1,0 +1,3 @@
+pub mod Constants
+pub mod Building
+pub mod Normalized
