@@ -1,0 +1,4 @@
+pub mod Laws
+pub mod OfKind
+pub mod Results
+pub mod Views

@@ -1,0 +1,5 @@
+pub mod Fields
+pub mod Form
+pub mod Laws
+pub mod Read
+pub mod Shown

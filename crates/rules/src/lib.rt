@@ -1,0 +1,4 @@
+// Reads a rules text into a specification.
+pub mod read;
+pub mod shown;
+pub mod specification;
