@@ -1,0 +1,9 @@
+use Rattle.explanation.proofs.Sections.{numbered-some, numbered-none}
+use Rattle.explanation.specs.Explanation.{environmentLine}
+use Rattle.explanation.proofs.lists.environment_at.Needs as need
+
+pub returns-in-Some : need.returns-in-Some
+returns-in-Some c = numbered-some environmentLine _ (c .args .i) (c .in-Some .name) _ (c .in-Some .ensures tt) (c .environment-line .ensures)
+
+pub returns-in-None : need.returns-in-None
+returns-in-None c = numbered-none environmentLine _ (c .args .i) (c .in-None .ensures tt)

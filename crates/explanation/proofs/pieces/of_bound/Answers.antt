@@ -1,0 +1,14 @@
+use native.Mathlib.Omega.{arith}
+use lib.Chars.{codes}
+use Rattle.lines.proofs.Pieces.{made-none, made-bytes, made-piece, made-u16, made-whole}
+use Rattle.explanation.proofs.Short.{made-short}
+use Rattle.explanation.proofs.pieces.of_bound.Needs as need
+
+pub returns : need.returns
+returns c =
+    let a = made-none (c .new-line .ensures) in
+    let b = made-piece 2 (c .args .operator .now) (c .pre) a (c .push-bytes .ensures) in
+    let d = made-u16 (c .args .n) (omega arith) b (c .push-number .ensures .line) in
+    let e = made-bytes (codes "] ") d (c .push-bytes-2 .ensures) in
+    let f = made-u16 (c .args .part) (omega arith) e (c .push-number-2 .ensures .line) in
+    record { text = made-whole f (omega arith); short = made-short f (omega arith) }
