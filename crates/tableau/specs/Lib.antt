@@ -1,0 +1,17 @@
+pub mod Lists
+pub mod Moves
+pub mod Cover
+pub mod Met
+pub mod Card
+pub mod Form
+pub mod Conditions
+pub mod Judge
+pub mod Acceptable
+pub mod Plays
+pub mod Forces
+pub mod Laws
+pub mod Samples
+pub mod WorkedCards
+pub mod WrongCards
+pub mod UnusualCards
+pub mod Coverings
