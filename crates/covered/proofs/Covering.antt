@@ -20,7 +20,7 @@ use Rattle.tableau.specs.Cover.{held, wider, inner, plainly, covers}
 use Rattle.tableau.proofs.Tests.{any-out, any-in}
 use Rattle.tableau.proofs.Cover.{plainly-out, covers-plainly, covers-false}
 use Rattle.records.specs.declared.FormulaRecord.{FormulaRecord}
-use Rattle.covered.specs.Table.{Table, Listed, formulaOf}
+use Rattle.records.specs.Table.{Table, Listed, formulaOf}
 use Rattle.covered.specs.Marks.{marked, isRange, includes, stronger, coversRange, partsCover, follows, rangesFrom, coveredMarks}
 use Rattle.covered.specs.Meaning.{Members, Covers}
 use Rattle.covered.proofs.Spread.{at, ranges-keeps, ranges-length, ranges-marks, ranges-only, joined-keeps, joined-marks, joined-only}

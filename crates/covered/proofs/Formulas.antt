@@ -19,7 +19,7 @@ use Rattle.tableau.proofs.Different.{Read, tree-step, tree-read, different-tree
 use Rattle.tableau.proofs.Cover.{held-member}
 use Rattle.records.specs.Raw.{entryOf}
 use Rattle.records.specs.declared.FormulaRecord.{FormulaRecord}
-use Rattle.covered.specs.Table.{Table, Listed, formulasOf, formulaOf, entryAt}
+use Rattle.records.specs.Table.{Table, Listed, formulasOf, formulaOf, entryAt}
 use Rattle.covered.proofs.Passes.{noRecord}
 use Rattle.covered.proofs.Spread.{at}
 

@@ -14,7 +14,7 @@ use Rattle.temporal.proofs.Same.{member-tells}
 use Rattle.tableau.specs.Cover.{conjuncts, held}
 use Rattle.tableau.proofs.Cover.{held-member, member-held}
 use Rattle.records.specs.declared.FormulaRecord.{FormulaRecord}
-use Rattle.covered.specs.Table.{Table, Listed, formulaOf}
+use Rattle.records.specs.Table.{Table, Listed, formulaOf}
 use Rattle.covered.specs.Marks.{marked, heldMarks}
 use Rattle.covered.specs.Meaning.{Members}
 use Rattle.covered.proofs.Spread.{at, held-keep, held-only, held-closed}

@@ -16,7 +16,7 @@ use Rattle.tableau.specs.Card.{noEntry}
 use Rattle.tableau.proofs.Trees.{GoodList}
 use Rattle.records.specs.Raw.{RawCard, model, entryOf}
 use Rattle.records.specs.declared.FormulaRecord.{FormulaRecord}
-use Rattle.covered.specs.Table.{Table, Listed, formulasOf, formulaOf, entryAt}
+use Rattle.records.specs.Table.{Table, Listed, formulasOf, formulaOf, entryAt}
 use Rattle.covered.specs.Marks.{marked, mark}
 use Rattle.covered.specs.Meaning.{Members}
 use Rattle.covered.proofs.Passes.{noRecord}

@@ -9,7 +9,7 @@ use Rattle.temporal.specs.Parts.{member}
 use Rattle.temporal.specs.Game.{Spec}
 use Rattle.tableau.specs.Cover.{held, covers}
 use Rattle.records.specs.declared.FormulaRecord.{FormulaRecord}
-use Rattle.covered.specs.Table.{Table, Listed, formulaOf}
+use Rattle.records.specs.Table.{Table, Listed, formulaOf}
 use Rattle.covered.specs.Marks.{marked}
 
 -- formula i is marked exactly if the set has it
