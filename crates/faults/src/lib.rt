@@ -3,6 +3,8 @@ ghost use mathlib.Core.Path.{_≡_};
 ghost use Rattle.faults.specs.declared.Fault.the-variants.{Text, Short};
 ghost use Rattle.faults.specs.Numbers.{reasonNumber, bufferNumber, faultNumber, faultLayer, faultPlace};
 
+pub mod card;
+
 // Why a text is refused, smallest number first.
 #[derive(Clone, Copy, PartialEq, Eq, Debug)]
 pub enum Reason {

@@ -1,0 +1,17 @@
+use mathlib.Core.Path.{sym, ap, _∙_}
+use native.Mathlib.Omega.{arith}
+use Rattle.std.specs.declared.option.Option.the-variants.{Some}
+use Rattle.card.specs.Layout.{moveAt}
+use Rattle.card.specs.Trailer.{movesFrom}
+use Rattle.card.proofs.Entries.{entries-in, entries-past}
+use Rattle.card.proofs.file.FileCard.move_at.Needs as need
+
+pub returns-then-i-self : need.returns-then-i-self
+returns-then-i-self c =
+    let s = c .args .self .now in sym (entries-past (moveAt (s .bytes .now)) 10 (movesFrom (s .formulas) (s .labels) (s .nodes)) (s .moves) (c .args .i) (omega arith))
+
+pub returns : need.returns
+returns c =
+    let s = c .args .self .now in
+    ap Some (c .read-move .ensures)
+    ∙ sym (entries-in (moveAt (s .bytes .now)) 10 (movesFrom (s .formulas) (s .labels) (s .nodes)) (s .moves) (c .args .i) _ (omega arith) (omega arith))

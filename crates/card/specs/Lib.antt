@@ -1,0 +1,4 @@
+pub mod Limits
+pub mod Layout
+pub mod Trailer
+pub mod Written
