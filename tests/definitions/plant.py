@@ -5,7 +5,8 @@
 
 Works on a copy of crates/temporal and crates/tableau in a temporary folder. A change that is refused by nothing is printed as MISSED, and
 the status is then 1. `samples` means that the computed cards refuse it (they show a real difference); `laws` lists the law functions
-that are not proved any more (a proof may also break where the law still holds).
+that are not proved any more (a proof may also break where the law still holds). A check that ends without a verdict counts as refused, since
+the gate refuses it too.
 """
 import json
 import pathlib
@@ -19,6 +20,11 @@ ROOT = pathlib.Path(__file__).resolve().parents[2]
 CHANGES = json.loads((pathlib.Path(__file__).parent / "changes.json").read_text())
 
 
+def checked(folder):
+    run = subprocess.run(["rt", "dev", "tableau"], cwd=folder, stdout=subprocess.PIPE, stderr=subprocess.STDOUT, text=True)
+    return run.stdout
+
+
 def main():
     chosen = [c for c in CHANGES if not sys.argv[1:] or any(w in c["change"] for w in sys.argv[1:])]
     missed = 0
@@ -28,6 +34,7 @@ def main():
         for crate in ("temporal", "tableau"):
             shutil.copytree(ROOT / "crates" / crate, copy / "crates" / crate)
         (copy / "crates.txt").write_text("temporal:\ntableau: temporal\n")
+        assert "logic=proved functions" in checked(copy).splitlines()[-1], "the definitions as they are have to be proved"
         for change in chosen:
             saved = {}
             for edit in change["edits"]:
@@ -36,10 +43,10 @@ def main():
                 saved.setdefault(path, text)
                 assert edit["old"] in text, (change["change"], edit["old"])
                 path.write_text(text.replace(edit["old"], edit["new"], 1))
-            out = subprocess.run(["rt", "dev", "tableau"], cwd=copy, capture_output=True, text=True).stdout
+            out = checked(copy)
             laws = sorted(set(re.findall(r"fn tableau::(\w+): not proved", out)))
             samples = "worked_cards_have_their_outcomes" in laws
-            refused = "logic=proved" not in out.splitlines()[-1] if out else True
+            refused = "logic=proved functions" not in out.splitlines()[-1]
             missed += not refused
             others = [law for law in laws if law != "worked_cards_have_their_outcomes"]
             print(f"{'refused' if refused else 'MISSED '}  {change['change']}: {'samples' if samples else 'no sample'}; laws {', '.join(others) or 'none'}", flush=True)
