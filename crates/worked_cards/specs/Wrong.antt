@@ -77,12 +77,25 @@ wrong-copy =
     -- an open card has no end, and no target past its nodes
     ∷ refuses copy-text (open′ copy [] two-moves (move 1 0 1 0 0 ∷ move 1 1 1 1 theEnd ∷ [])) 15 3 1
     ∷ refuses copy-text (open′ copy [] two-moves (move 1 0 1 0 0 ∷ move 1 1 1 1 1 ∷ [])) 15 3 1
-    -- a reply that does not copy; a free variable read generously
+    -- a reply that does not copy, and one that is left free
     ∷ refuses copy-text (open′ copy [] two-moves (move 1 0 1 0 0 ∷ move 1 1 1 0 0 ∷ [])) 16 3 1
-    -- 13 before 14; 15 of any move before 16 of another; form of a later list before equal formulas
-    ∷ refuses copy-text (open′ copy (0 ∷ []) (at 0 1 0 1 ∷ []) copying) 13 1 0
-    ∷ refuses copy-text (open′ copy [] two-moves (move 1 0 1 1 0 ∷ move 1 1 1 1 7 ∷ [])) 15 3 1
+    ∷ refuses copy-text (open′ copy [] two-moves (move 1 0 1 0 0 ∷ move 1 1 0 0 0 ∷ [])) 16 3 1
+    ∷ []
+
+-- ── the order: two conditions fail, and the first in the order is named ──
+abbrev pub wrong-twice : List Case
+wrong-twice =
+    -- 8 before 9, 9 of a later list before 10, 10 before 11
+    refuses false-text (record { kind = 3; formulas = tt′ ∷ ff ∷ []; labels = []; nodes = one-node; moves = end-move }) 8 4 8
     ∷ refuses copy-text (open′ (ff ∷ tt′ ∷ is s ∷ is s ∷ []) [] (at 0 0 0 3 ∷ []) copying) 9 2 0
+    ∷ refuses copy-text (open′ (ff ∷ tt′ ∷ is s ∷ is s ∷ []) [] two-moves copying) 10 0 3
+    -- 11 of the specification before 12, 12 before 13
+    ∷ refuses (rules (codes "s") (codes "s <-> p_e")) (open′ (ff ∷ tt′ ∷ is s ∷ isNot s ∷ is p ∷ isNot p ∷ []) [] two-moves copying) 11 0 0
+    ∷ refuses (rules (codes "s") (codes "s <-> p_e")) (open′ copy (0 ∷ []) (at 0 0 0 2 ∷ at 0 1 0 2 ∷ []) copying) 12 2 0
+    -- 13 before 14, 14 before 15, 15 of any move before 16 of another
+    ∷ refuses copy-text (open′ copy (0 ∷ []) (at 0 1 0 1 ∷ []) copying) 13 1 0
+    ∷ refuses copy-text (open′ copy [] one-node (move 1 0 1 0 7 ∷ [])) 14 2 0
+    ∷ refuses copy-text (open′ copy [] two-moves (move 1 0 1 1 0 ∷ move 1 1 1 1 7 ∷ [])) 15 3 1
     ∷ []
 
 -- ── what has to be listed ──
