@@ -1,7 +1,7 @@
 #!/usr/bin/env python3
-"""A second reader of rules texts, written from docs/rules-text.md and docs/refusals.md alone.
+"""A second reader of rules texts, by docs/rules-text.md and docs/refusals.md.
 
-It shares nothing with the library and is not part of the gate; it makes the expected output of the cases
+It shares no code with the library and is not part of the gate; it makes the expected output of the cases
 that are, and random texts can be tried against the program `explain` with it (see fuzz.py).
 
     oracle.py FILE      prints what `explain FILE` has to print
