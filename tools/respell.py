@@ -46,7 +46,7 @@ PARAMETERS = "firstLabel formulaSlots nameSlots e-is is-met is-not is-rest token
 
 
 def snake(name):
-    name = name.replace("-", "_").replace("getD", "get_or")
+    name = re.sub(r"\bgetD\b|(?<=_)getD", "get_or", name.replace("-", "_"))
     name = re.sub(r"([a-z0-9'])([A-Z])", r"\1_\2", name)
     return name.lower()
 

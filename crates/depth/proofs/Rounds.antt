@@ -2,19 +2,19 @@
 use Rattle.std.proofs.Common.{◌≡◌, ℕ, zero, suc, ◌+◌, ◌<◌, ◌≤◌, max, List, [], ◌∷◌, length, sym, refl, ap, arith}
 use Rattle.tableau.specs.Moves.{Target, end, node, Move}
 use Rattle.tableau.specs.Card.{Card, closed, node_at, move_at, moves_of}
-use Rattle.tableau.specs.Judge.{target_orepth, deepest, depth_in, depth_at}
+use Rattle.tableau.specs.Judge.{target_depth, deepest, depth_in, depth_at}
 use Rattle.tableau.specs.Acceptable.{MoveOf, TargetKept}
 use Rattle.depth.specs.Deepest.{deepest_from}
 
 -- ── depths that agree, and bounds ──
 pub same_deepest : (c : Card) (f g : ℕ → ℕ) (count i : ℕ)
-    → ((m : ℕ) → i ≤ m → m < i + count → target_orepth f (move_at c m).target ≡ target_orepth g (move_at c m).target)
+    → ((m : ℕ) → i ≤ m → m < i + count → target_depth f (move_at c m).target ≡ target_depth g (move_at c m).target)
     → deepest_from c f count i ≡ deepest_from c g count i
 same_deepest c f g zero i h = refl
 same_deepest c f g (suc count) i h =
     λ j. max (h i (omega arith) (omega arith) j) (same_deepest c f g count (suc i) (λ m a b. h m (omega arith) (omega arith)) j)
 
-target_most : (d : ℕ → ℕ) (most : ℕ) → ((k : ℕ) → d k ≤ most) → (t : Target) → target_orepth d t ≤ most
+target_most : (d : ℕ → ℕ) (most : ℕ) → ((k : ℕ) → d k ≤ most) → (t : Target) → target_depth d t ≤ most
 target_most d most h end = omega arith
 target_most d most h (node k) = h k
 
@@ -28,7 +28,7 @@ depth_most (suc rounds) moves n = omega (arith, deepest_most (depth_in rounds mo
 
 -- ── as many rounds as there are nodes suffice ──
 same_target : (f g : ℕ → ℕ) (count n : ℕ) (t : Target) → TargetKept closed count n t
-    → ((k : ℕ) → n < k → k < count → f k ≡ g k) → target_orepth f t ≡ target_orepth g t
+    → ((k : ℕ) → n < k → k < count → f k ≡ g k) → target_depth f t ≡ target_depth g t
 same_target f g count n end s h = refl
 same_target f g count n (node k) s h = h k s.0 s.1
 

@@ -4,7 +4,7 @@ use Rattle.std.specs.List.{slice_get}
 use Rattle.std.proofs.lemmas.List.{get_or_past}
 use Rattle.tableau.specs.Moves.{Move, no_move}
 use Rattle.tableau.specs.Card.{Card, move_at}
-use Rattle.tableau.specs.Judge.{target_orepth}
+use Rattle.tableau.specs.Judge.{target_depth}
 use Rattle.records.specs.declared.MoveRecord.{MoveRecord}
 use Rattle.records.specs.Raw.{RawCard, target_of, model}
 use Rattle.card.proofs.Walk.{length_none}
@@ -13,9 +13,9 @@ use Rattle.depth.specs.Deepest.{deepest_from}
 
 -- ── the list of moves ──
 from_next : (c : Card) (d : ℕ → ℕ) (left next i after : ℕ) → left ≡ suc next → after ≡ suc i
-    → deepest_from c d left i ≡ max (target_orepth d (move_at c i).target) (deepest_from c d next after)
+    → deepest_from c d left i ≡ max (target_depth d (move_at c i).target) (deepest_from c d next after)
 from_next c d left next i after p q =
-    ap (λ (x : ℕ). deepest_from c d x i) p ∙ ap (λ (x : ℕ). max (target_orepth d (move_at c i).target) (deepest_from c d next x)) (sym q)
+    ap (λ (x : ℕ). deepest_from c d x i) p ∙ ap (λ (x : ℕ). max (target_depth d (move_at c i).target) (deepest_from c d next x)) (sym q)
 
 -- nothing was found, and all moves are left
 pub targets_none : (c : Card) (d : ℕ → ℕ) (count first : ℕ) → max 0 (deepest_from c d (count - 0) (first + 0)) ≡ deepest_from c d count first
@@ -28,14 +28,14 @@ targets_none c d count first =
 
 -- one move more
 pub targets_more : (c : RawCard) (d : ℕ → ℕ) (count first k found t more all : ℕ) (step : MoveRecord) → k < count
-    → Some step ≡ slice_get c.moves (first + k) → t ≡ target_orepth d (target_of step.target) → more ≡ max found t
+    → Some step ≡ slice_get c.moves (first + k) → t ≡ target_depth d (target_of step.target) → more ≡ max found t
     → max found (deepest_from (model c) d (count - k) (first + k)) ≡ all
     → max more (deepest_from (model c) d (count - (k + 1)) (first + (k + 1))) ≡ all
 targets_more c d count first k found t more all step l e td large inv =
     let m = move_some c (first + k) step e in
     let n = from_next (model c) d (count - k) (count - (k + 1)) (first + k) (first + (k + 1)) (omega arith) (omega arith) in
-    let u : target_orepth d (move_at (model c) (first + k)).target ≡ t =
-    ap (λ (x : Move). target_orepth d x.target) m ∙ sym td in
+    let u : target_depth d (move_at (model c) (first + k)).target ≡ t =
+    ap (λ (x : Move). target_depth d x.target) m ∙ sym td in
     omega arith
 
 -- no moves are left
@@ -49,7 +49,7 @@ past : (c : RawCard) (d : ℕ → ℕ) (left i : ℕ) → length c.moves ≤ i �
 past c d zero i h = refl
 past c d (suc left) i h =
     let m : move_at (model c) i ≡ no_move = get_or_past (model c).moves i no_move (omega (arith, model_moves c)) in
-    let u : target_orepth d (move_at (model c) i).target ≡ 0 = ap (λ (x : Move). target_orepth d x.target) m in
+    let u : target_depth d (move_at (model c) i).target ≡ 0 = ap (λ (x : Move). target_depth d x.target) m in
     let r = past c d left (suc i) (omega arith) in
     omega arith
 

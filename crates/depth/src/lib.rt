@@ -1,6 +1,8 @@
 // Depths of a closed card: that of a node is 1 plus the largest of the targets of its moves, the end counting 0.
+#![tactic(auto)]
+
 ghost use Rattle.std.specs.Prelude.{◌≡◌, ◌+◌, ◌-◌, ◌^◌, min, max};
-ghost use Rattle.tableau.specs.Judge.{target_orepth, depth_at};
+ghost use Rattle.tableau.specs.Judge.{target_depth, depth_at};
 ghost use Rattle.records.specs.Raw.{target_of, model};
 ghost use Rattle.depth.specs.Descending.{Descending};
 ghost use Rattle.depth.specs.Deepest.{held_depth, deepest_from};
@@ -23,7 +25,7 @@ fn node_depth(depths: &[u16; 1024], node: usize) -> u16
 
 /// The depth of a target, by the depths of the nodes.
 fn target_depth(depths: &[u16; 1024], target: u16) -> u16
-    ensures { result ≡ target_orepth (held_depth depths.now) (target_of target) }
+    ensures { result ≡ target_depth (held_depth depths.now) (target_of target) }
 {
     match target {
         END => 0,

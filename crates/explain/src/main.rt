@@ -1,6 +1,8 @@
 //! Prints how a rules text reads: the variables, the formulas, and which of them are the initial and the safety formula; or why
 //! and where the text is refused. The text is the file that the first argument names, or `rules.txt`. A name that cannot be read is
 //! that of no file, and the text is then empty.
+#![tactic(auto)]
+
 use reader_io::print_explanation;
 use std::{env, io};
 

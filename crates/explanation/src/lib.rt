@@ -1,4 +1,6 @@
 //! How a text was read, as lines of text.
+#![tactic(auto)]
+
 mod formula;
 mod lists;
 mod pieces;

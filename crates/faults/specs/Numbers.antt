@@ -2,7 +2,6 @@
 use Rattle.std.specs.Prelude.{ℕ}
 use Rattle.faults.specs.declared.Reason.{Reason}
 use Rattle.faults.specs.declared.Reason.TheVariants.{TooLong, Unknown, Misplaced, Bounds, Variables, Nesting, Formulas}
-use Rattle.faults.specs.declared.TextFault.{TextFault}
 use Rattle.faults.specs.declared.Buffer.{Buffer}
 use Rattle.faults.specs.declared.Buffer.TheVariants.{Index, Rows, BookText, Output}
 use Rattle.faults.specs.declared.Layer.{Layer}

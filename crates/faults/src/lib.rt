@@ -1,4 +1,6 @@
 // What a text is refused for: a reason with a fixed number, and the byte where it stands.
+#![tactic(auto)]
+
 ghost use Rattle.std.specs.Prelude.{◌≡◌};
 ghost use Rattle.faults.specs.declared.Fault.TheVariants.{Text, Short};
 ghost use Rattle.faults.specs.Numbers.{reason_number, buffer_number, fault_number, fault_layer, fault_place};

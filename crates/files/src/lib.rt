@@ -1,4 +1,6 @@
 //! Files as the programs read them.
+#![tactic(auto)]
+
 use std::fs;
 
 /// The bytes of a file: none where it cannot be read.

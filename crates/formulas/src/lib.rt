@@ -1,4 +1,6 @@
 // The entries of a table of formulas, parts before wholes.
+#![tactic(auto)]
+
 ghost use Rattle.std.specs.Prelude.{◌≡◌, Decides};
 ghost use Rattle.formulas.specs.Entries.{code_of, entry_code, fields_of};
 

@@ -1,6 +1,8 @@
 // An index over slots that the caller owns: a hash table with linear probing, for any kind of key.
 // It keeps a list of keys by number: the caller holds the keys 0, 1, 2, .., and the index says which number a key has.
 // A key's home is its code modulo the slot count. From there the slots are tried one after another, the first after the last.
+#![tactic(auto)]
+
 ghost use Rattle.std.specs.Prelude.{◌≡◌, ℕ, ◌%◌, ◌<◌, T as True, List, [], map, length};
 ghost use Rattle.index.specs.Keyed.{Extends, Found, Indexed, Inserted, Looked, OneInsertion, OneLookup, Refuses, Vacant, free_slot, slot_of, wrapped};
 

@@ -1,4 +1,6 @@
 // Where a card's list of formulas has the formulas of a specification.
+#![tactic(auto)]
+
 ghost use Rattle.std.specs.Prelude.{◌≡◌, List, slice_index};
 ghost use Rattle.records.specs.declared.FormulaRecord.{FormulaRecord as Record};
 ghost use Rattle.rested.specs.Listing.{Ready, pair_of, timed_of};

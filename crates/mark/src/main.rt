@@ -1,5 +1,7 @@
 //! Marks a card file for a rules text, and prints the verdict or the refusal as one line. The files are those that the first and the
 //! second argument name, or `rules.txt` and `card.bin`; a file that cannot be read is empty.
+#![tactic(auto)]
+
 use mark_io::print_mark;
 use std::{env, io};
 

@@ -1,4 +1,6 @@
 //! Marks many pairs of a rules text and a card file. The file `cases.txt` names them, a pair on each line.
+#![tactic(auto)]
+
 use mark_io::print_mark;
 use std::{fs, io};
 

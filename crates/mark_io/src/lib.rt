@@ -1,4 +1,6 @@
 //! Reading two files as a rules text and a card, and printing how the card is marked.
+#![tactic(auto)]
+
 use files::read_or_empty;
 use formulas::Formula;
 use index::{FREE, Slot};

@@ -1,4 +1,6 @@
 //! Marking a rules text and a card file.
+#![tactic(auto)]
+
 ghost use Rattle.std.specs.Prelude.{◌≡◌, ◌-◌, ◌^◌, min, length};
 ghost use Rattle.rules.specs.Laws.{game_of};
 ghost use Rattle.rules.specs.Shown.{view};

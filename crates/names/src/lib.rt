@@ -1,4 +1,6 @@
 // Names: words of at most 15 bytes, each of one size, so that they can be keys of an index.
+#![tactic(auto)]
+
 ghost use Rattle.std.specs.Prelude.{◌≡◌, ◌<◌, length, if◌then◌else◌, Some, None, Decides, nat_lt, slice_index};
 ghost use Rattle.std.specs.List.{slice_get};
 ghost use Rattle.names.specs.Words.{KeepsWords, at_most15, is_environment, name_code, name_of, next_code, word_of};

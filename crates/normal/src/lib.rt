@@ -1,4 +1,6 @@
 // From the nodes of a text to the list of its formulas in normal form.
+#![tactic(auto)]
+
 ghost use Rattle.std.specs.Prelude.{◌≡◌, ◌<◌, ◌≤◌, true, [], length};
 ghost use Rattle.formulas.specs.Entries.{entry_code};
 ghost use Rattle.index.specs.Keyed.{Indexed};

@@ -1,4 +1,6 @@
 //! What marking a text and a card gives, and the line that shows it.
+#![tactic(auto)]
+
 mod pieces;
 mod shown;
 

@@ -1,4 +1,6 @@
 // Reads a rules text by recursive descent.
+#![tactic(auto)]
+
 ghost use Rattle.std.specs.Prelude.{◌≡◌, ◌≤◌, [], length, nat_lt};
 ghost use Rattle.faults.specs.declared.Reason.TheVariants as reason;
 ghost use Rattle.index.specs.Keyed.{Indexed};

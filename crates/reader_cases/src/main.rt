@@ -1,4 +1,6 @@
 //! Prints how each of many texts reads. The file `cases.txt` names their files, one on each line.
+#![tactic(auto)]
+
 use reader_io::print_explanation;
 use std::{fs, io};
 

@@ -1,4 +1,6 @@
 //! Reading a file as a rules text, and printing how it was read.
+#![tactic(auto)]
+
 use explanation::line;
 use faults::Fault;
 use files::read_or_empty;

@@ -1,4 +1,5 @@
 // The entries of a card as plain records, as a source answers them and a file holds them.
+#![tactic(auto)]
 
 // A formula: its kind (0 false, 1 true, 2 variable, 3 negated variable, 4 and, 5 or, 6 X, 7 G, 8 F), its variable, the numbers of
 // its parts, and its bounds.

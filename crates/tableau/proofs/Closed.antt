@@ -11,7 +11,7 @@ use Rattle.temporal.proofs.Truth.{rest_exact, more_true}
 use Rattle.temporal.proofs.Lists.{map_in, one_member, sorted}
 use Rattle.tableau.specs.Lists.{count}
 use Rattle.tableau.specs.Moves.{Target, end, node, Move, fits_env, fits_sys, generous, first_move, first_fit}
-use Rattle.tableau.specs.Judge.{target_orepth, deepest, depth_in}
+use Rattle.tableau.specs.Judge.{target_depth, deepest, depth_in}
 use Rattle.tableau.specs.Plays.{Leads, input_at, input_rule}
 use Rattle.tableau.proofs.Cover.{held_true, covers_true}
 use Rattle.tableau.proofs.Fits.{reading_generous, first_fits, first_all}
@@ -102,7 +102,7 @@ module _ (spec : Spec) (T : Tableau) (ok : ClosedTableau spec T) where
   abbrev deep : ℕ → ℕ → ℕ
   deep b n = depth_in b (moves_in T) n
 
-  target_deepest : (d : ℕ → ℕ) (ms : List Move) (m : Move) → m ∈ ms → target_orepth d m.target ≤ deepest d ms
+  target_deepest : (d : ℕ → ℕ) (ms : List Move) (m : Move) → m ∈ ms → target_depth d m.target ≤ deepest d ms
   target_deepest d [] m i = elim i [ ]
   target_deepest d (x ∷ ms) m first = omega arith
   target_deepest d (x ∷ ms) m (later i) = let h = target_deepest d ms m i in omega arith
@@ -124,7 +124,7 @@ module _ (spec : Spec) (T : Tableau) (ok : ClosedTableau spec T) where
         over [] v = (refl, v)
         over (x ∷ r) v = absurd v
 
-        go : (q : Target) → ClosedStep T n (rests_by spec (T.at n) u.0) q → target_orepth (deep b) q ≤ D → Leads (moves_in T) q r g
+        go : (q : Target) → ClosedStep T n (rests_by spec (T.at n) u.0) q → target_depth (deep b) q ≤ D → Leads (moves_in T) q r g
             → ((k : ℕ) → n < k → k < T.size → Leads (moves_in T) (node k) r g
             → (length r ≤ deep b k) × ((j : ℕ) → g ≡ node j → length r < deep b k))
             → (suc (length r) ≤ suc D) × ((k : ℕ) → g ≡ node k → suc (length r) < suc D)
@@ -139,7 +139,7 @@ module _ (spec : Spec) (T : Tableau) (ok : ClosedTableau spec T) where
 
   -- more rounds give no other depth
   same_deepest : (f g : ℕ → ℕ) (ms : List Move)
-      → ((m : Move) → m ∈ ms → target_orepth f m.target ≡ target_orepth g m.target) → deepest f ms ≡ deepest g ms
+      → ((m : Move) → m ∈ ms → target_depth f m.target ≡ target_depth g m.target) → deepest f ms ≡ deepest g ms
   same_deepest f g [] h = refl
   same_deepest f g (m ∷ ms) h = λ i. max (h m first i) (same_deepest f g ms (λ x k. h x (later k)) i)
 
@@ -150,7 +150,7 @@ module _ (spec : Spec) (T : Tableau) (ok : ClosedTableau spec T) where
       (λ m i. go m.target m ((ok.nodes n l).step m i) (λ k a z. deep_enough b k z (omega arith))))
     where
       go : (g : Target) (m : Move) → ClosedStep T n (rests_by spec (T.at n) m) g
-          → ((k : ℕ) → n < k → k < T.size → deep (suc b) k ≡ deep b k) → target_orepth (deep (suc b)) g ≡ target_orepth (deep b) g
+          → ((k : ℕ) → n < k → k < T.size → deep (suc b) k ≡ deep b k) → target_depth (deep (suc b)) g ≡ target_depth (deep b) g
       go end m s ih = refl
       go (node k) m s ih = ih k s.0 s.1
 

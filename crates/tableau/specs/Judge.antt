@@ -15,13 +15,13 @@ verdict_of closed = unrealizable
 
 -- ── depth ──
 -- the depth of a target, by the depths of the nodes; the end counts 0
-abbrev pub target_orepth : (ℕ → ℕ) → Target → ℕ
-target_orepth d end = 0
-target_orepth d (node k) = d k
+abbrev pub target_depth : (ℕ → ℕ) → Target → ℕ
+target_depth d end = 0
+target_depth d (node k) = d k
 
 abbrev pub deepest : (ℕ → ℕ) → List Move → ℕ
 deepest d [] = 0
-deepest d (m ∷ ms) = max (target_orepth d m.target) (deepest d ms)
+deepest d (m ∷ ms) = max (target_depth d m.target) (deepest d ms)
 
 -- the depth of node n, where moves gives the moves of each node: 1 plus the largest of its targets.
 -- Targets lie above the node's own number, so as many rounds as there are nodes suffice

@@ -1,5 +1,7 @@
 // Cards: what one is, when one is acceptable, how one is judged, and what an acceptable card proves.
 // The definitions stand in specs/. Each function here stands for laws about them: it does nothing, and its contract is the laws.
+#![tactic(auto)]
+
 ghost use Rattle.tableau.specs.Laws.{CoveringSound, CoveringMonotone, FittingStepBetween, RestMet};
 ghost use Rattle.tableau.specs.Laws.{JudgeAccepts, JudgeRefuses, DepthOfNodes, DifferentFormulas};
 ghost use Rattle.tableau.specs.Laws.{OpenPlayNeverLost, OpenRepliesWin, OpenSystemWins};

@@ -1,5 +1,7 @@
 // The meaning of formulas and of the game. The definitions stand in specs/.
 // Each function here stands for laws about them: it does nothing, and its contract is the laws.
+#![tactic(auto)]
+
 ghost use Rattle.temporal.specs.Laws.{RestExact, TruthMonotone, TruthLocal, StepExact, RangeTruth, FromAt, SameComputes};
 ghost use Rattle.temporal.specs.Laws.{NormalFormSaysTheSame, NormalFormFine};
 ghost use Rattle.temporal.specs.Laws.{MemberComputes, PartsListedOnce, EnterExtends, EnterClosed, AllParts};

@@ -1,4 +1,6 @@
 // Worked cards: texts and cards with their outcomes, computed by the definitions from the bytes of the text on.
+#![tactic(auto)]
+
 ghost use Rattle.worked_cards.specs.Worked.{MarkedAsListed, worked};
 ghost use Rattle.worked_cards.specs.Wrong.{wrong_false, wrong_copy, wrong_twice, wrong_lists};
 

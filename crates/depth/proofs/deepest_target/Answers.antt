@@ -15,8 +15,8 @@ loop-k-preserved g c =
     let raw = g.S.CardSource.card c.args.source.now in
     let count = c.args.node.move_count in
     let first = c.args.node.first_move in
-    targets_more raw d count first c.loop-k.k c.loop-k.deepest c.target-depth.result c.deeper-deepest.result
-    (deepest_from (model raw) d count first) c.in-Some.step c.loop-k-test.true c.in-Some.ensures c.target-depth.ensures
+    targets_more raw d count first c.loop-k.k c.loop-k.deepest c.target_depth.result c.deeper-deepest.result
+    (deepest_from (model raw) d count first) c.in-Some.step c.loop-k-test.true c.in-Some.ensures c.target_depth.ensures
     c.deeper-deepest.ensures c.loop-k.invariant
 
 pub returns-after-loop-k : goal.returns-after-loop-k
@@ -25,8 +25,8 @@ returns-after-loop-k g c =
     targets_end (model (g.S.CardSource.card c.args.source.now)) (held_depth c.args.depths.now) left
     (c.args.node.first_move + c.loop-k.k) c.loop-k.deepest _ (omega arith) c.loop-k.invariant
 
-pub returns-in-default : goal.returns-in-default
-returns-in-default g c =
+pub returns-in_default : goal.returns-in_default
+returns-in_default g c =
     let left = c.args.node.move_count - c.loop-k.k in
     targets_past (g.S.CardSource.card c.args.source.now) (held_depth c.args.depths.now) left
-    (c.args.node.first_move + c.loop-k.k) c.loop-k.deepest _ c.in-default.ensures c.loop-k.invariant
+    (c.args.node.first_move + c.loop-k.k) c.loop-k.deepest _ c.in_default.ensures c.loop-k.invariant

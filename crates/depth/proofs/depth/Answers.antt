@@ -2,7 +2,7 @@ use Rattle.std.proofs.Common.{◌≡◌, ℕ, ◌+◌, ◌-◌, ◌<◌, ◌≤�
 use Rattle.card.proofs.Walk.{length_some, length_none}
 use Rattle.depth.proofs.Passes.{Passed, passed_none, passed_all, node_depth, passed_more}
 use Rattle.depth.proofs.depth.Goals as goal
-use Rattle.depth.proofs.depth.Goals.{else-loop-n-test, then-loop-n-test+in-default}
+use Rattle.depth.proofs.depth.Goals.{else-loop-n-test, then-loop-n-test+in_default}
 
 pub loop-n-init : goal.loop-n-init
 loop-n-init g c = (
@@ -23,7 +23,7 @@ loop-n-preserved g c =
           let before : Passed raw c.loop-n.depths (n + 1) =
           subst (λ (x : ℕ). Passed raw c.loop-n.depths x) next (c.loop-n.invariant.1 ok) in
           passed_more raw ok c.loop-n.depths n c.above.result room before there
-          (c.above.ensures ∙ node_depth raw ok c.loop-n.depths n c.deepest-target.result c.in-Some.node c.in-Some.ensures there before c.deepest-target.ensures),
+          (c.above.ensures ∙ node_depth raw ok c.loop-n.depths n c.deepest_target.result c.in-Some.node c.in-Some.ensures there before c.deepest_target.ensures),
     )
 
 pub returns : goal.returns
@@ -34,8 +34,8 @@ returns g c ok =
           let left = w.loop-n-test.false in
           let z : c.loop-n.n ≡ 0 = omega arith in
           passed_all raw c.loop-n.depths (subst (λ (x : ℕ). Passed raw c.loop-n.depths x) z (c.loop-n.invariant.1 ok))
-      | then-loop-n-test+in-default w ↦
-          let past : length raw.nodes ≤ c.loop-n.n - 1 = length_none raw.nodes (c.loop-n.n - 1) w.in-default.ensures in
+      | then-loop-n-test+in_default w ↦
+          let past : length raw.nodes ≤ c.loop-n.n - 1 = length_none raw.nodes (c.loop-n.n - 1) w.in_default.ensures in
           let taken = w.loop-n-test.true in
           absurd (omega (arith, c.loop-n.auto.n, c.min-n.ensures, c.node_count.ensures))
     ]

@@ -7,8 +7,8 @@ use Rattle.index.proofs.clear.Goals as goal
 
 pub loop-i-preserved : goal.loop-i-preserved
 loop-i-preserved g c =
-    let slot : c.free-slot.result ≡ free_slot c.index-slots-i.result =
-    c.free-slot.ensures ∙ ap free_slot (sym c.index-slots-i.is) in
+    let slot : c.free_slot.result ≡ free_slot c.index-slots-i.result =
+    c.free_slot.ensures ∙ ap free_slot (sym c.index-slots-i.is) in
     ap (set c.loop-i.slots c.loop-i.i) slot
     ∙ map_over_more free_slot c.args.slots.now c.loop-i.slots c.loop-i.i c.index-slots-i.result
     c.loop-i-test.true c.loop-i.invariant c.index-slots-i.is

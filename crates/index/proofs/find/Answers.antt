@@ -15,11 +15,11 @@ returns-then-slot g c =
     let h = home g.K.Key.coded (length c.args.slots.now) c.args.key.now in
     let miss : Miss g.K.Key.coded c.args.slots.now c.args.key.now =
     record {
-      far = c.loop-d.-d;
+      far = c.loop-d._d;
       way = c.loop-d.invariant.2;
       stop = inr (record {
         slot = c.index-slots-at.result;
-        here = here_at c.args.slots.now h c.loop-d.-d c.loop-d.at c.index-slots-at.result
+        here = here_at c.args.slots.now h c.loop-d._d c.loop-d.at c.index-slots-at.result
             c.loop-d.invariant.0 c.loop-d.invariant.1 c.index-slots-at.is;
         free = c.if-slot.true;
       });
@@ -31,11 +31,11 @@ returns-then-same g c =
     let h = home g.K.Key.coded (length c.args.slots.now) c.args.key.now in
     let hit : Hit g.K.Key.coded c.args.slots.now c.args.key.now c.index-slots-at.result.number =
     record {
-      far = c.loop-d.-d;
+      far = c.loop-d._d;
       slot = c.index-slots-at.result;
       near = c.loop-d-test.true;
       way = c.loop-d.invariant.2;
-      here = here_at c.args.slots.now h c.loop-d.-d c.loop-d.at c.index-slots-at.result
+      here = here_at c.args.slots.now h c.loop-d._d c.loop-d.at c.index-slots-at.result
           c.loop-d.invariant.0 c.loop-d.invariant.1 c.index-slots-at.is;
       held = c.if-slot.false;
       key = c.if-same.ensures.yes tt;
@@ -51,18 +51,18 @@ loop-d-preserved g c =
     let n = length c.args.slots.now in
     let h = home g.K.Key.coded (length c.args.slots.now) c.args.key.now in
     let hn : h < n = home_lt (g.K.Key.coded c.args.key.now) n (omega (arith, c.loop-d.invariant.0)) in
-    let ps : Passed c.args.slots.now h c.args.key.now (c.loop-d.-d + 1) =
-    passed_more c.args.slots.now h c.args.key.now c.loop-d.-d c.index-slots-at.result
+    let ps : Passed c.args.slots.now h c.args.key.now (c.loop-d._d + 1) =
+    passed_more c.args.slots.now h c.args.key.now c.loop-d._d c.index-slots-at.result
     c.loop-d.invariant.2
-    (here_at c.args.slots.now h c.loop-d.-d c.loop-d.at c.index-slots-at.result
+    (here_at c.args.slots.now h c.loop-d._d c.loop-d.at c.index-slots-at.result
     c.loop-d.invariant.0 c.loop-d.invariant.1 c.index-slots-at.is)
     c.if-slot.false c.if-same.ensures.not
     in
     let lt : c.following-at.result < n = rw c.following-at.ensures (wrapped_lt c.loop-d.at n c.loop-d.invariant.0) in
-    (lt, c.following-at.ensures ∙ next_place n h c.loop-d.-d c.loop-d.at hn c.loop-d-test.true c.loop-d.invariant.1, ps)
+    (lt, c.following-at.ensures ∙ next_place n h c.loop-d._d c.loop-d.at hn c.loop-d-test.true c.loop-d.invariant.1, ps)
 
 pub returns : goal.returns
 returns g c =
     let miss : Miss g.K.Key.coded c.args.slots.now c.args.key.now =
-    record { far = c.loop-d.-d; way = c.loop-d.invariant.2; stop = inl (omega arith) } in
+    record { far = c.loop-d._d; way = c.loop-d.invariant.2; stop = inl (omega arith) } in
     record { value = miss; model = looked_found g.K.Key.coded c.args.slots.now c.args.key.now None miss }

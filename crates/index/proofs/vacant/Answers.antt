@@ -12,7 +12,7 @@ pub returns-then-slot : goal.returns-then-slot
 returns-then-slot g c = (
   c.loop-d.invariant.0,
   record {
-    far = c.loop-d.-d;
+    far = c.loop-d._d;
     slot = c.index-slots-at.result;
     near = c.loop-d-test.true;
     is = c.loop-d.invariant.1;
@@ -28,15 +28,15 @@ loop-d-preserved g c =
     let n = length c.args.slots.now in
     let h = home g.K.Key.coded (length c.args.slots.now) c.args.key.now in
     let hn : h < n = home_lt (g.K.Key.coded c.args.key.now) n (omega (arith, c.loop-d.invariant.0)) in
-    let ps : AllHeld n c.args.slots.now h (c.loop-d.-d + 1) =
-    held_more c.args.slots.now h c.loop-d.-d c.index-slots-at.result
+    let ps : AllHeld n c.args.slots.now h (c.loop-d._d + 1) =
+    held_more c.args.slots.now h c.loop-d._d c.index-slots-at.result
     c.loop-d.invariant.2
-    (here_at c.args.slots.now h c.loop-d.-d c.loop-d.at c.index-slots-at.result
+    (here_at c.args.slots.now h c.loop-d._d c.loop-d.at c.index-slots-at.result
     c.loop-d.invariant.0 c.loop-d.invariant.1 c.index-slots-at.is)
     c.if-slot.false
     in
     let lt : c.following-at.result < n = rw c.following-at.ensures (wrapped_lt c.loop-d.at n c.loop-d.invariant.0) in
-    (lt, c.following-at.ensures ∙ next_place n h c.loop-d.-d c.loop-d.at hn c.loop-d-test.true c.loop-d.invariant.1, ps)
+    (lt, c.following-at.ensures ∙ next_place n h c.loop-d._d c.loop-d.at hn c.loop-d-test.true c.loop-d.invariant.1, ps)
 
 pub returns : goal.returns
 returns g c =

@@ -6,5 +6,5 @@ use Rattle.index.proofs.vacant.Given as goal
 abbrev pub invariant-loop-d : goal.invariant-loop-d
 invariant-loop-d g l =
     (l.at < length l.slots)
-    × (l.at ≡ place (length l.slots) (home g.K.Key.coded (length l.slots) l.key) l.-d)
-    × AllHeld (length l.slots) l.slots (home g.K.Key.coded (length l.slots) l.key) l.-d
+    × (l.at ≡ place (length l.slots) (home g.K.Key.coded (length l.slots) l.key) l._d)
+    × AllHeld (length l.slots) l.slots (home g.K.Key.coded (length l.slots) l.key) l._d

@@ -16,20 +16,20 @@ loop-i-preserved c =
     let l : i < length numbers = omega (arith, c.loop-i.invariant.1, c.min-i-end.ensures) in
     let h : i < length es = omega (arith, c.min-i-end.ensures) in (
       λ rs ready o. numbered_more es rs numbers i n l (c.loop-i.invariant.0 rs ready o)
-          (numbered_at es i entry.False rs c.args.slots.now numbers c.record-of.result (Some n) ready o h (c.loop-i.invariant.0 rs ready o)
-          c.record-of.ensures c.in-Some.ensures),
+          (numbered_at es i entry.False rs c.args.slots.now numbers c.record_of.result (Some n) ready o h (c.loop-i.invariant.0 rs ready o)
+          c.record_of.ensures c.in-Some.ensures),
       length-set numbers i n ∙ c.loop-i.invariant.1,
     )
 
-pub returns-in-default : goal.returns-in-default
-returns-in-default c rs ready o few =
+pub returns-in_default : goal.returns-in_default
+returns-in_default c rs ready o few =
     let es = c.args.entries.now in
     let i = c.loop-i.i in
     let h : i < length es = omega (arith, c.min-i-end.ensures) in (
       i,
       h,
-      numbered_at es i entry.False rs c.args.slots.now c.loop-i.numbers c.record-of.result None ready o h (c.loop-i.invariant.0 rs ready o)
-          c.record-of.ensures c.in-default.ensures,
+      numbered_at es i entry.False rs c.args.slots.now c.loop-i.numbers c.record_of.result None ready o h (c.loop-i.invariant.0 rs ready o)
+          c.record_of.ensures c.in_default.ensures,
     )
 
 pub returns : goal.returns

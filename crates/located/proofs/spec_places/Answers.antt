@@ -9,11 +9,11 @@ use Rattle.located.specs.Numbers.{Numbers}
 use Rattle.located.proofs.Whole.{located, not_located}
 use Rattle.located.proofs.spec_places.Goals as goal
 
-pub returns-in-default : goal.returns-in-default
-returns-in-default c rs ready =
+pub returns-in_default : goal.returns-in_default
+returns-in_default c rs ready =
     let s = c.args.specification.now in
     let sound = spec_sound s in
-    let n = subst (λ (es : List Formula). Numbers es c.args.slots.now None) c.formulas.ensures c.in-default.ensures in
+    let n = subst (λ (es : List Formula). Numbers es c.args.slots.now None) c.formulas.ensures c.in_default.ensures in
     not_located (view s) sound rs ready.listing (n rs ready sound.ordered sound.few)
 
 pub returns : goal.returns
@@ -22,7 +22,7 @@ returns c rs ready =
     let sound = spec_sound s in
     let numbers = c.in-Some.numbers in
     let n = subst (λ (es : List Formula). Numbers es c.args.slots.now (Some numbers)) c.formulas.ensures c.in-Some.ensures in
-    let is : c.places-of.result ≡ record { initial = get_or numbers (view s).initial 0; safety = get_or numbers (view s).safety 0 } =
-    c.places-of.ensures ∙ (λ j. record { initial = get_or numbers (c.initial.ensures j) 0; safety = get_or numbers (c.safety.ensures j) 0 }) in
+    let is : c.places_of.result ≡ record { initial = get_or numbers (view s).initial 0; safety = get_or numbers (view s).safety 0 } =
+    c.places_of.ensures ∙ (λ j. record { initial = get_or numbers (c.initial.ensures j) 0; safety = get_or numbers (c.safety.ensures j) 0 }) in
     subst (λ (p : Places). Located (game_of (view s)) rs (Some p)) (sym is)
     (located (view s) sound rs ready.listing numbers (n rs ready sound.ordered sound.few))

@@ -5,9 +5,9 @@ use Rattle.names.proofs.padded.Goals as goal
 pub loop-i-preserved : goal.loop-i-preserved
 loop-i-preserved c =
     padded_more c.args.word.now c.loop-i.bytes c.loop-i.i c.loop-i.invariant
-    (omega (arith, c.loop-i-test.true, c.at-most-15-n.ensures))
+    (omega (arith, c.loop-i-test.true, c.at_most_15-n.ensures))
 
 pub returns : goal.returns
 returns c =
     c.loop-i.invariant
-    ∙ padded_all c.args.word.now c.loop-i.i (omega (arith, c.at-most-15-n.ensures))
+    ∙ padded_all c.args.word.now c.loop-i.i (omega (arith, c.at_most_15-n.ensures))

@@ -6,9 +6,9 @@ use Rattle.card.proofs.writer.write.Goals as goal
 pub returns : goal.returns
 returns g c =
     let card = g.S.CardSource.card c.args.source.now in
-    let right : wrong_count card ≡ None = sym c.in-default.ensures in
+    let right : wrong_count card ≡ None = sym c.in_default.ensures in
     record {
-      value = written_ok card c.write-card.result (length c.args.output.now) right c.write-card.ensures.size (omega arith);
-      bytes = c.write-card.ensures.bytes;
-      opens = card_opens card c.write-card.new.output _ c.write-card.result right c.write-card.ensures.size c.write-card.ensures.bytes;
+      value = written_ok card c.write_card.result (length c.args.output.now) right c.write_card.ensures.size (omega arith);
+      bytes = c.write_card.ensures.bytes;
+      opens = card_opens card c.write_card.new.output _ c.write_card.result right c.write_card.ensures.size c.write_card.ensures.bytes;
     }

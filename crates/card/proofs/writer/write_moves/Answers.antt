@@ -8,8 +8,8 @@ pub loop-i-preserved : goal.loop-i-preserved
 loop-i-preserved g c =
     let xs = (g.S.CardSource.card c.args.source.now).moves in
     let i = c.loop-i.i in
-    put_entry move_bytes xs _ c.loop-i.output (c.args.at + 10 * i) i c.loop-i.invariant c.in-Some.step c.move-to-bytes.result c.put.new.output
-    (c.args.at + 10 * (i + 1)) c.in-Some.ensures c.move-to-bytes.ensures c.put.ensures (omega arith) (omega arith)
+    put_entry move_bytes xs _ c.loop-i.output (c.args.at + 10 * i) i c.loop-i.invariant c.in-Some.step c.move_to_bytes.result c.put.new.output
+    (c.args.at + 10 * (i + 1)) c.in-Some.ensures c.move_to_bytes.ensures c.put.ensures (omega arith) (omega arith)
 
 pub returns-after-loop-i : goal.returns-after-loop-i
 returns-after-loop-i g c =
@@ -17,8 +17,8 @@ returns-after-loop-i g c =
     let i = c.loop-i.i in
     put_end move_bytes xs _ c.loop-i.output (c.args.at + 10 * i) i c.loop-i.invariant (omega arith)
 
-pub returns-in-default : goal.returns-in-default
-returns-in-default g c =
+pub returns-in_default : goal.returns-in_default
+returns-in_default g c =
     let xs = (g.S.CardSource.card c.args.source.now).moves in
     let i = c.loop-i.i in
-    put_end move_bytes xs _ c.loop-i.output (c.args.at + 10 * i) i c.loop-i.invariant (length_none xs i c.in-default.ensures)
+    put_end move_bytes xs _ c.loop-i.output (c.args.at + 10 * i) i c.loop-i.invariant (length_none xs i c.in_default.ensures)

@@ -4,12 +4,12 @@ use Rattle.covered.specs.Meaning.{Covers}
 use Rattle.covered.proofs.Covering.{marks_covered}
 use Rattle.covered.proofs.cover.covered.Goals as goal
 
-value : (c : goal.After-cover-wholes) → c.cover-wholes.new.covered ≡ covered_marks c.args.records.now c.args.held.now
+value : (c : goal.After-cover_wholes) → c.cover_wholes.new.covered ≡ covered_marks c.args.records.now c.args.held.now
 value c =
     let rs = c.args.records.now in
-    c.cover-wholes.ensures
-    ∙ ap (λ (b : Bool). joined_from b rs 0 c.cover-ranges.new.covered) c.is-marked.ensures
-    ∙ ap (joined_from (marked c.args.held.now 0) rs 0) c.cover-ranges.ensures
+    c.cover_wholes.ensures
+    ∙ ap (λ (b : Bool). joined_from b rs 0 c.cover_ranges.new.covered) c.is_marked.ensures
+    ∙ ap (joined_from (marked c.args.held.now 0) rs 0) c.cover_ranges.ensures
 
 pub returns : goal.returns
 returns c = record {

@@ -15,58 +15,58 @@ free_lt high cube h m =
 
 pub subsets-init : goal.subsets-init
 subsets-init c = (
-  and_self c.free-high-free.result,
+  and_self c.free_high-free.result,
   omega arith,
   λ cube formed v f w.
       subst (λ (k : ℕ). Done c.args.high cube formed c.args.words.now (ltb k) c.args.words.now) (sym f)
       (done_start c.args.high cube formed c.args.words.now),
 )
 
-pub mark-word-requires : goal.mark-word-requires
-mark-word-requires c =
+pub mark_word-requires : goal.mark_word-requires
+mark_word-requires c =
     let m : c.args.cube.mask < 2 ^ 16 = omega arith in
     let v : c.args.cube.values / 64 < 2 ^ 10 = omega arith in
-    let f : c.free-high-free.result < 2 ^ 10 =
-    subst (λ (k : ℕ). k < 2 ^ 10) (sym c.free-high-free.ensures) (free_lt c.args.high c.args.cube c.requires m) in
+    let f : c.free_high-free.result < 2 ^ 10 =
+    subst (λ (k : ℕ). k < 2 ^ 10) (sym c.free_high-free.ensures) (free_lt c.args.high c.args.cube c.requires m) in
     let s = c.subsets.invariant.0 in
     or_lt 10 (c.args.cube.values / 64) c.subsets.rest v
-    (omega (arith, and_le_r c.subsets.rest c.free-high-free.result))
+    (omega (arith, and_le_r c.subsets.rest c.free_high-free.result))
 
-pub returns-then-not-mark-word : goal.returns-then-not-mark-word
-returns-then-not-mark-word c = λ formed.
+pub returns-then-not-mark_word : goal.returns-then-not-mark_word
+returns-then-not-mark_word c = λ formed.
     turn_stops c.args.high c.args.cube formed c.args.words.now c.subsets.rest (c.args.cube.values / 64)
-    c.free-high-free.result c.low-word-word.result refl c.free-high-free.ensures c.low-word-word.ensures
+    c.free_high-free.result c.low_word-word.result refl c.free_high-free.ensures c.low_word-word.ensures
     c.subsets.invariant.0 c.subsets.words
-    (c.subsets.invariant.2 c.args.cube formed refl c.free-high-free.ensures c.low-word-word.ensures)
-    c.mark-word.result c.mark-word.ensures.value c.if-not-mark-word.true
+    (c.subsets.invariant.2 c.args.cube formed refl c.free_high-free.ensures c.low_word-word.ensures)
+    c.mark_word.result c.mark_word.ensures.value c.if-not-mark_word.true
 
 pub returns-then-rest-eq0 : goal.returns-then-rest-eq0
 returns-then-rest-eq0 c = λ formed.
     let p : 2 ^ c.args.high ≤ 2 ^ 10 = pow_mono c.requires in
     let n = c.subsets.invariant.1 in
     turn_ends c.args.high c.args.cube formed c.args.words.now c.subsets.rest (c.args.cube.values / 64)
-    c.free-high-free.result c.low-word-word.result refl c.free-high-free.ensures c.low-word-word.ensures
+    c.free_high-free.result c.low_word-word.result refl c.free_high-free.ensures c.low_word-word.ensures
     c.subsets.invariant.0 c.subsets.words
-    (c.subsets.invariant.2 c.args.cube formed refl c.free-high-free.ensures c.low-word-word.ensures)
-    c.mark-word.result c.mark-word.ensures.value c.mark-word.new.words c.mark-word.ensures.marks
-    (omega arith) c.if-not-mark-word.false c.if-rest-eq0.true
+    (c.subsets.invariant.2 c.args.cube formed refl c.free_high-free.ensures c.low_word-word.ensures)
+    c.mark_word.result c.mark_word.ensures.value c.mark_word.new.words c.mark_word.ensures.marks
+    (omega arith) c.if-not-mark_word.false c.if-rest-eq0.true
 
 pub subsets-smaller : goal.subsets-smaller
-subsets-smaller c = omega (arith, and_le_l (c.subsets.rest - 1) c.free-high-free.result)
+subsets-smaller c = omega (arith, and_le_l (c.subsets.rest - 1) c.free_high-free.result)
 
 pub subsets-preserved : goal.subsets-preserved
 subsets-preserved c =
     let p : 2 ^ c.args.high ≤ 2 ^ 10 = pow_mono c.requires in
     let n = c.subsets.invariant.1 in
     let m : c.args.cube.mask < 2 ^ 16 = omega arith in
-    let g : c.free-high-free.result < 2 ^ 10 =
-    subst (λ (k : ℕ). k < 2 ^ 10) (sym c.free-high-free.ensures) (free_lt c.args.high c.args.cube c.requires m) in (
-      and_twice 10 (c.subsets.rest - 1) c.free-high-free.result g,
+    let g : c.free_high-free.result < 2 ^ 10 =
+    subst (λ (k : ℕ). k < 2 ^ 10) (sym c.free_high-free.ensures) (free_lt c.args.high c.args.cube c.requires m) in (
+      and_twice 10 (c.subsets.rest - 1) c.free_high-free.result g,
       omega arith,
       λ cube formed v f w.
           turn_next c.args.high cube formed c.args.words.now c.subsets.rest (c.args.cube.values / 64)
-          c.free-high-free.result c.low-word-word.result v f w c.subsets.invariant.0 c.subsets.words
+          c.free_high-free.result c.low_word-word.result v f w c.subsets.invariant.0 c.subsets.words
           (c.subsets.invariant.2 cube formed v f w)
-          c.mark-word.result c.mark-word.ensures.value c.mark-word.new.words c.mark-word.ensures.marks
-          (omega arith) c.if-not-mark-word.false (omega arith),
+          c.mark_word.result c.mark_word.ensures.value c.mark_word.new.words c.mark_word.ensures.marks
+          (omega arith) c.if-not-mark_word.false (omega arith),
     )

@@ -8,27 +8,27 @@ use Rattle.coverings.proofs.covering.covering_kept.Goals as goal
 tested : (kind asked : ℕ) (r b : Bool) → asked ≡ kind → r ≡ eqb asked 1 → r ≡ b → eqb kind 1 ≡ b
 tested kind asked r b k e t = ap (λ n. eqb n 1) (sym k) ∙ sym e ∙ t
 
-pub returns-then-is-open : goal.returns-then-is-open
-returns-then-is-open g c = λ spec ready.
+pub returns-then-is_open : goal.returns-then-is_open
+returns-then-is_open g c = λ spec ready.
     let card = g.S.CardSource.card c.args.source.now in
-    c.covers-once.ensures (inputs card spec c.args.environment c.args.system c.args.node ready)
+    c.covers_once.ensures (inputs card spec c.args.environment c.args.system c.args.node ready)
     ∙ open_kept card spec c.args.environment c.args.system c.args.node ready
-    (tested card.kind c.kind.result c.is-open.result _ c.kind.ensures c.is-open.ensures c.if-is-open.true)
+    (tested card.kind c.kind.result c.is_open.result _ c.kind.ensures c.is_open.ensures c.if-is_open.true)
 
-pub returns-then-inputs-alike : goal.returns-then-inputs-alike
-returns-then-inputs-alike g c = λ spec ready.
+pub returns-then-inputs_alike : goal.returns-then-inputs_alike
+returns-then-inputs_alike g c = λ spec ready.
     let card = g.S.CardSource.card c.args.source.now in
-    c.covers-once-then-inputs-alike.ensures (replies card spec c.args.environment c.args.system c.args.node ready)
+    c.covers_once-then-inputs_alike.ensures (replies card spec c.args.environment c.args.system c.args.node ready)
     ∙ sym (ap (λ b. b && once System c.args.system (moves_from card c.args.node))
-    (sym c.inputs-alike.ensures ∙ c.if-inputs-alike.true))
+    (sym c.inputs_alike.ensures ∙ c.if-inputs_alike.true))
     ∙ closed_kept card spec c.args.environment c.args.system c.args.node ready
-    (tested card.kind c.kind.result c.is-open.result _ c.kind.ensures c.is-open.ensures c.if-is-open.false)
+    (tested card.kind c.kind.result c.is_open.result _ c.kind.ensures c.is_open.ensures c.if-is_open.false)
 
-pub returns-else-inputs-alike : goal.returns-else-inputs-alike
-returns-else-inputs-alike g c = λ spec ready.
+pub returns-else-inputs_alike : goal.returns-else-inputs_alike
+returns-else-inputs_alike g c = λ spec ready.
     let card = g.S.CardSource.card c.args.source.now in
-    c.if-inputs-alike.false
+    c.if-inputs_alike.false
     ∙ sym (ap (λ b. b && once System c.args.system (moves_from card c.args.node))
-    (sym c.inputs-alike.ensures ∙ c.if-inputs-alike.false))
+    (sym c.inputs_alike.ensures ∙ c.if-inputs_alike.false))
     ∙ closed_kept card spec c.args.environment c.args.system c.args.node ready
-    (tested card.kind c.kind.result c.is-open.result _ c.kind.ensures c.is-open.ensures c.if-is-open.false)
+    (tested card.kind c.kind.result c.is_open.result _ c.kind.ensures c.is_open.ensures c.if-is_open.false)

@@ -3,5 +3,5 @@ use Rattle.formed.proofs.counts.counts_right.Goals as goal
 
 pub returns : goal.returns
 returns g c = λ spec.
-    refusal_judges spec (g.S.CardSource.card c.args.source.now) c.wrong-count.result c.refusal.result c.wrong-count.ensures
+    refusal_judges spec (g.S.CardSource.card c.args.source.now) c.wrong_count.result c.refusal.result c.wrong_count.ensures
     c.refusal.ensures

@@ -22,16 +22,16 @@ loop-i-preserved g c = λ spec p q.
     left_pass formula_form (length (model raw).formulas) spec (model raw) i (c.loop-i.invariant spec p q)
     (omega (arith, model_formulas raw, length_some raw.formulas i c.in-Some.formula c.in-Some.ensures))
     (formula_tested spec raw i true c.args.environment c.args.system p q c.in-Some.formula
-    c.in-Some.ensures c.if-not-formula-formed.ensures)
+    c.in-Some.ensures c.if-not-formula_formed.ensures)
 
-pub returns-then-not-formula-formed : goal.returns-then-not-formula-formed
-returns-then-not-formula-formed g c = λ spec p q.
+pub returns-then-not-formula_formed : goal.returns-then-not-formula_formed
+returns-then-not-formula_formed g c = λ spec p q.
     let raw = g.S.CardSource.card c.args.source.now in
     let i = c.loop-i.i in
     left_fail formula_form (length (model raw).formulas) spec (model raw) i (c.loop-i.invariant spec p q)
     (omega (arith, model_formulas raw, length_some raw.formulas i c.in-Some.formula c.in-Some.ensures))
     (formula_tested spec raw i false c.args.environment c.args.system p q c.in-Some.formula
-    c.in-Some.ensures c.if-not-formula-formed.ensures)
+    c.in-Some.ensures c.if-not-formula_formed.ensures)
     c.unformed.result (unformed_at Formulas i) c.unformed.ensures refl
 
 pub returns-after-loop-i : goal.returns-after-loop-i
@@ -40,9 +40,9 @@ returns-after-loop-i g c = λ spec p q.
     let i = c.loop-i.i in
     left_end formula_form (length (model raw).formulas) spec (model raw) i (c.loop-i.invariant spec p q) (omega (arith, model_formulas raw, c.loop-i.auto))
 
-pub returns-in-default : goal.returns-in-default
-returns-in-default g c = λ spec p q.
+pub returns-in_default : goal.returns-in_default
+returns-in_default g c = λ spec p q.
     let raw = g.S.CardSource.card c.args.source.now in
     let i = c.loop-i.i in
     left_end formula_form (length (model raw).formulas) spec (model raw) i (c.loop-i.invariant spec p q)
-    (omega (arith, model_formulas raw, length_none raw.formulas i c.in-default.ensures))
+    (omega (arith, model_formulas raw, length_none raw.formulas i c.in_default.ensures))

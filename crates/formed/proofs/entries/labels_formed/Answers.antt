@@ -20,17 +20,17 @@ loop-i-preserved g c = λ spec.
     let i = c.loop-i.i in
     left_pass label_form (length (model raw).labels) spec (model raw) i (c.loop-i.invariant spec)
     (omega (arith, length_some raw.labels i c.in-Some.label c.in-Some.ensures))
-    (label_tested spec raw i true c.in-Some.label c.formula-count-formulas.result c.formula-count-formulas.ensures
-    c.in-Some.ensures c.if-not-label-formed.ensures)
+    (label_tested spec raw i true c.in-Some.label c.formula_count-formulas.result c.formula_count-formulas.ensures
+    c.in-Some.ensures c.if-not-label_formed.ensures)
 
-pub returns-then-not-label-formed : goal.returns-then-not-label-formed
-returns-then-not-label-formed g c = λ spec.
+pub returns-then-not-label_formed : goal.returns-then-not-label_formed
+returns-then-not-label_formed g c = λ spec.
     let raw = g.S.CardSource.card c.args.source.now in
     let i = c.loop-i.i in
     left_fail label_form (length (model raw).labels) spec (model raw) i (c.loop-i.invariant spec)
     (omega (arith, length_some raw.labels i c.in-Some.label c.in-Some.ensures))
-    (label_tested spec raw i false c.in-Some.label c.formula-count-formulas.result c.formula-count-formulas.ensures
-    c.in-Some.ensures c.if-not-label-formed.ensures)
+    (label_tested spec raw i false c.in-Some.label c.formula_count-formulas.result c.formula_count-formulas.ensures
+    c.in-Some.ensures c.if-not-label_formed.ensures)
     c.unformed.result (unformed_at Labels i) c.unformed.ensures refl
 
 pub returns-after-loop-i : goal.returns-after-loop-i
@@ -39,9 +39,9 @@ returns-after-loop-i g c = λ spec.
     let i = c.loop-i.i in
     left_end label_form (length (model raw).labels) spec (model raw) i (c.loop-i.invariant spec) (omega (arith, c.loop-i.auto))
 
-pub returns-in-default : goal.returns-in-default
-returns-in-default g c = λ spec.
+pub returns-in_default : goal.returns-in_default
+returns-in_default g c = λ spec.
     let raw = g.S.CardSource.card c.args.source.now in
     let i = c.loop-i.i in
     left_end label_form (length (model raw).labels) spec (model raw) i (c.loop-i.invariant spec)
-    (omega (arith, length_none raw.labels i c.in-default.ensures))
+    (omega (arith, length_none raw.labels i c.in_default.ensures))

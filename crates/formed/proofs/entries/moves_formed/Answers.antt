@@ -22,16 +22,16 @@ loop-i-preserved g c = λ spec p q.
     left_pass move_form (length (model raw).moves) spec (model raw) i (c.loop-i.invariant spec p q)
     (omega (arith, model_moves raw, length_some raw.moves i c.in-Some.step c.in-Some.ensures))
     (move_tested spec raw i true c.args.environment c.args.system p q c.in-Some.step
-    c.in-Some.ensures c.if-not-move-formed.ensures)
+    c.in-Some.ensures c.if-not-move_formed.ensures)
 
-pub returns-then-not-move-formed : goal.returns-then-not-move-formed
-returns-then-not-move-formed g c = λ spec p q.
+pub returns-then-not-move_formed : goal.returns-then-not-move_formed
+returns-then-not-move_formed g c = λ spec p q.
     let raw = g.S.CardSource.card c.args.source.now in
     let i = c.loop-i.i in
     left_fail move_form (length (model raw).moves) spec (model raw) i (c.loop-i.invariant spec p q)
     (omega (arith, model_moves raw, length_some raw.moves i c.in-Some.step c.in-Some.ensures))
     (move_tested spec raw i false c.args.environment c.args.system p q c.in-Some.step
-    c.in-Some.ensures c.if-not-move-formed.ensures)
+    c.in-Some.ensures c.if-not-move_formed.ensures)
     c.unformed.result (unformed_at Moves i) c.unformed.ensures refl
 
 pub returns-after-loop-i : goal.returns-after-loop-i
@@ -40,9 +40,9 @@ returns-after-loop-i g c = λ spec p q.
     let i = c.loop-i.i in
     left_end move_form (length (model raw).moves) spec (model raw) i (c.loop-i.invariant spec p q) (omega (arith, model_moves raw, c.loop-i.auto))
 
-pub returns-in-default : goal.returns-in-default
-returns-in-default g c = λ spec p q.
+pub returns-in_default : goal.returns-in_default
+returns-in_default g c = λ spec p q.
     let raw = g.S.CardSource.card c.args.source.now in
     let i = c.loop-i.i in
     left_end move_form (length (model raw).moves) spec (model raw) i (c.loop-i.invariant spec p q)
-    (omega (arith, model_moves raw, length_none raw.moves i c.in-default.ensures))
+    (omega (arith, model_moves raw, length_none raw.moves i c.in_default.ensures))

@@ -21,19 +21,19 @@ loop-i-preserved g c = λ spec.
     let i = c.loop-i.i in
     left_pass node_form (length (model raw).nodes) spec (model raw) i (c.loop-i.invariant spec)
     (omega (arith, model_nodes raw, length_some raw.nodes i c.in-Some.node c.in-Some.ensures))
-    (node_tested spec raw i true c.in-Some.node c.label-count-labels.result c.move-count-moves.result
-    c.label-count-labels.ensures c.move-count-moves.ensures
-    c.in-Some.ensures c.if-not-node-formed.ensures)
+    (node_tested spec raw i true c.in-Some.node c.label_count-labels.result c.move_count-moves.result
+    c.label_count-labels.ensures c.move_count-moves.ensures
+    c.in-Some.ensures c.if-not-node_formed.ensures)
 
-pub returns-then-not-node-formed : goal.returns-then-not-node-formed
-returns-then-not-node-formed g c = λ spec.
+pub returns-then-not-node_formed : goal.returns-then-not-node_formed
+returns-then-not-node_formed g c = λ spec.
     let raw = g.S.CardSource.card c.args.source.now in
     let i = c.loop-i.i in
     left_fail node_form (length (model raw).nodes) spec (model raw) i (c.loop-i.invariant spec)
     (omega (arith, model_nodes raw, length_some raw.nodes i c.in-Some.node c.in-Some.ensures))
-    (node_tested spec raw i false c.in-Some.node c.label-count-labels.result c.move-count-moves.result
-    c.label-count-labels.ensures c.move-count-moves.ensures
-    c.in-Some.ensures c.if-not-node-formed.ensures)
+    (node_tested spec raw i false c.in-Some.node c.label_count-labels.result c.move_count-moves.result
+    c.label_count-labels.ensures c.move_count-moves.ensures
+    c.in-Some.ensures c.if-not-node_formed.ensures)
     c.unformed.result (unformed_at Nodes i) c.unformed.ensures refl
 
 pub returns-after-loop-i : goal.returns-after-loop-i
@@ -42,9 +42,9 @@ returns-after-loop-i g c = λ spec.
     let i = c.loop-i.i in
     left_end node_form (length (model raw).nodes) spec (model raw) i (c.loop-i.invariant spec) (omega (arith, model_nodes raw, c.loop-i.auto))
 
-pub returns-in-default : goal.returns-in-default
-returns-in-default g c = λ spec.
+pub returns-in_default : goal.returns-in_default
+returns-in_default g c = λ spec.
     let raw = g.S.CardSource.card c.args.source.now in
     let i = c.loop-i.i in
     left_end node_form (length (model raw).nodes) spec (model raw) i (c.loop-i.invariant spec)
-    (omega (arith, model_nodes raw, length_none raw.nodes i c.in-default.ensures))
+    (omega (arith, model_nodes raw, length_none raw.nodes i c.in_default.ensures))

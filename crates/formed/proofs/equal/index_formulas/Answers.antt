@@ -23,12 +23,12 @@ loop-i-preserved c = λ few room.
     let inv = c.loop-i.invariant few wide in
     let found = c.find.ensures.model (map key_of (take i rs)) inv.1 in (
       λ spec card e. left_pass new_formula (length rs) spec card i (inv.0 spec card e) l
-          (new_missing rs i l spec card e c.find.result found (sym c.if-is-some.ensures)),
+          (new_missing rs i l spec card e c.find.result found (sym c.if-is_some.ensures)),
       entered_more rs i l slots c.insert.new.slots c.insert.result (omega arith) wide inv.1 c.insert.ensures.model,
     )
 
-pub returns-then-is-some : goal.returns-then-is-some
-returns-then-is-some c = record {
+pub returns-then-is_some : goal.returns-then-is_some
+returns-then-is_some c = record {
   judged = λ few room spec card e.
       let rs = c.args.records.now in
       let i = c.loop-i.i in
@@ -36,8 +36,8 @@ returns-then-is-some c = record {
       let inv = c.loop-i.invariant few (omega (arith, c.loop-i.auto.slots)) in
       let found = c.find.ensures.model (map key_of (take i rs)) inv.1 in
       left_fail new_formula (length rs) spec card i (inv.0 spec card e) l
-      (old_found rs i l spec card e c.find.result found (sym c.if-is-some.ensures))
-      c.equal-formula.result (equal_at i) c.equal-formula.ensures refl;
+      (old_found rs i l spec card e c.find.result found (sym c.if-is_some.ensures))
+      c.equal_formula.result (equal_at i) c.equal_formula.ensures refl;
   indexed = λ few room. tt;
 }
 

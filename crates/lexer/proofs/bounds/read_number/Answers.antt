@@ -12,17 +12,17 @@ number_is :
 unfolding number_in
 number_is text least at x o e h = ap (bounded least x) h ∙ ap (λ y. bounded least y (number_of y.token)) e
 
-pub returns-in-default : goal.returns-in-default
-returns-in-default c =
+pub returns-in_default : goal.returns-in_default
+returns-in_default c =
     ap (λ n. refused n c.look-seen.result.from) c.refusal.ensures
-    ∙ number_is _ _ _ _ _ c.look-seen.ensures.value c.in-default.ensures
+    ∙ number_is _ _ _ _ _ c.look-seen.ensures.value c.in_default.ensures
 
-pub returns-then-is-outside : goal.returns-then-is-outside
-returns-then-is-outside c =
-    sym (cond-true _ _ _ (sym c.if-is-outside.ensures))
+pub returns-then-is_outside : goal.returns-then-is_outside
+returns-then-is_outside c =
+    sym (cond-true _ _ _ (sym c.if-is_outside.ensures))
     ∙ number_is _ _ _ _ _ c.look-seen.ensures.value c.in-Some.ensures
 
 pub returns : goal.returns
 returns c =
-    sym (cond-false _ _ _ (sym c.if-is-outside.ensures))
+    sym (cond-false _ _ _ (sym c.if-is_outside.ensures))
     ∙ number_is _ _ _ _ _ c.look-seen.ensures.value c.in-Some.ensures

@@ -4,48 +4,48 @@ use Rattle.lexer.proofs.look.look.Goals as goal
 
 pub returns-then-from-text : goal.returns-then-from-text
 returns-then-from-text c = record {
-  value = ended _ _ _ c.run-end-from.ensures.value c.if-from-text.true;
-  after = c.run-end-from.ensures.bound.1;
-  in_text = c.run-end-from.ensures.bound.0;
+  value = ended _ _ _ c.run_end-from.ensures.value c.if-from-text.true;
+  after = c.run_end-from.ensures.bound.1;
+  in_text = c.run_end-from.ensures.bound.0;
   more = inl refl;
 }
 
-pub returns-then-is-ascii-alphabetic : goal.returns-then-is-ascii-alphabetic
-returns-then-is-ascii-alphabetic c =
-    let is = sym c.if-is-ascii-alphabetic.ensures.value in
-    let next = c.run-end-next.ensures in
+pub returns-then-is_ascii_alphabetic : goal.returns-then-is_ascii_alphabetic
+returns-then-is_ascii_alphabetic c =
+    let is = sym c.if-is_ascii_alphabetic.ensures.value in
+    let next = c.run_end-next.ensures in
     record {
-      value = worded _ _ _ c.run-end-from.ensures.value c.if-from-text.false is _ _ next.value c.word-token.ensures;
-      after = c.run-end-from.ensures.bound.1;
+      value = worded _ _ _ c.run_end-from.ensures.value c.if-from-text.false is _ _ next.value c.word_token.ensures;
+      after = c.run_end-from.ensures.bound.1;
       in_text = λ _. next.bound.0 (omega arith);
       more = inr (omega (arith, next.value, word_runs _ _ c.if-from-text.false is));
     }
 
-pub returns-then-is-ascii-digit : goal.returns-then-is-ascii-digit
-returns-then-is-ascii-digit c =
-    let non = sym c.if-is-ascii-alphabetic.ensures.value in
-    let is = sym c.if-is-ascii-digit.ensures.value in
-    let next = c.run-end-next-then-is-ascii-digit.ensures in
+pub returns-then-is_ascii_digit : goal.returns-then-is_ascii_digit
+returns-then-is_ascii_digit c =
+    let non = sym c.if-is_ascii_alphabetic.ensures.value in
+    let is = sym c.if-is_ascii_digit.ensures.value in
+    let next = c.run_end-next-then-is_ascii_digit.ensures in
     record {
-      value = numbered _ _ _ c.run-end-from.ensures.value c.if-from-text.false non is _ _ next.value c.number.ensures;
-      after = c.run-end-from.ensures.bound.1;
+      value = numbered _ _ _ c.run_end-from.ensures.value c.if-from-text.false non is _ _ next.value c.number.ensures;
+      after = c.run_end-from.ensures.bound.1;
       in_text = λ _. next.bound.0 (omega arith);
       more = inr (omega (arith, next.value, number_runs _ _ c.if-from-text.false is));
     }
 
-pub returns-else-is-ascii-digit : goal.returns-else-is-ascii-digit
-returns-else-is-ascii-digit c =
-    let from = c.run-end-from.ensures in
+pub returns-else-is_ascii_digit : goal.returns-else-is_ascii_digit
+returns-else-is_ascii_digit c =
+    let from = c.run_end-from.ensures in
     let lt = c.if-from-text.false in
-    let non = sym c.if-is-ascii-alphabetic.ensures.value in
-    let nor = sym c.if-is-ascii-digit.ensures.value in
-    let second = c.byte-at.ensures in
-    let third = c.byte-at-else-is-ascii-digit.ensures in
-    let token = c.symbol-token.ensures in
-    let len = c.symbol-len.ensures in
+    let non = sym c.if-is_ascii_alphabetic.ensures.value in
+    let nor = sym c.if-is_ascii_digit.ensures.value in
+    let second = c.byte_at.ensures in
+    let third = c.byte_at-else-is_ascii_digit.ensures in
+    let token = c.symbol_token.ensures in
+    let len = c.symbol_len.ensures in
     record {
       value = signed_is _ _ _ from.value lt non nor _ _ _ _ second third token len;
       after = from.bound.1;
       in_text = λ _. omega (arith, len, symbol_fits _ _ _ _ _ lt second third token);
-      more = inr (omega (arith, len, symbol_long c.symbol-token.result));
+      more = inr (omega (arith, len, symbol_long c.symbol_token.result));
     }

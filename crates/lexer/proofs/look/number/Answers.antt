@@ -11,7 +11,7 @@ loop-digit-preserved c =
     let i = c.loop-digit.digit-index in
     let v = c.loop-digit.value in
     let e : c.min-value.result ≡ step v (get_or digits i 0) =
-    c.min-value.ensures ∙ ap (λ d. min (v * 10 + d) 4096) c.saturating-sub.ensures in
+    c.min-value.ensures ∙ ap (λ d. min (v * 10 + d) 4096) c.saturating_sub.ensures in
     let rest = sym (at_drop_more (fold step v) digits i 0 c.loop-digit-test.true) in
     (ap (λ w. fold step w (drop (i + 1) digits)) e ∙ rest ∙ c.loop-digit.invariant.0, omega arith)
 

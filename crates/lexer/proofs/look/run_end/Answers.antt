@@ -5,13 +5,13 @@ use Rattle.lexer.proofs.look.run_end.Goals as goal
 
 pub loop-i-preserved : goal.loop-i-preserved
 loop-i-preserved c =
-    let is = sym c.if-is-in.ensures in
+    let is = sym c.if-is_in.ensures in
     let one = prefix_len-drop_yes (is_in c.args.class) c.args.text.now c.loop-i.i 0 c.loop-i-test.true is in
     (omega (arith, one), λ _. omega arith, omega arith)
 
-pub returns-else-is-in : goal.returns-else-is-in
-returns-else-is-in c =
-    let non = sym c.if-is-in.ensures in
+pub returns-else-is_in : goal.returns-else-is_in
+returns-else-is_in c =
+    let non = sym c.if-is_in.ensures in
     let none = prefix_len-drop_no (is_in c.args.class) c.args.text.now c.loop-i.i 0 c.loop-i-test.true non in
     record { value = omega (arith, none); bound = (c.loop-i.invariant.1, c.loop-i.invariant.2) }
 

@@ -5,13 +5,13 @@ use Rattle.judged.proofs.Walks.{judged_pass, judged_fail}
 use Rattle.marking.proofs.Places.{refused}
 use Rattle.marking.proofs.check.judge_root.Goals as goal
 
-pub returns-then-not-root-kept : goal.returns-then-not-root-kept
-returns-then-not-root-kept g c spec known e l i =
+pub returns-then-not-root_kept : goal.returns-then-not-root_kept
+returns-then-not-root_kept g c spec known e l i =
     let s = g.S.CardSource.card c.args.source.now in
-    refused c.root-wrong.result _ c.root-wrong.ensures
-    ∙ sym (judged_fail (kept spec (model s)) fault root_kept [] (sym (c.root-kept.ensures spec known e l i) ∙ c.if-not-root-kept.true))
+    refused c.root_wrong.result _ c.root_wrong.ensures
+    ∙ sym (judged_fail (kept spec (model s)) fault root_kept [] (sym (c.root_kept.ensures spec known e l i) ∙ c.if-not-root_kept.true))
 
 pub returns : goal.returns
 returns g c spec known e l i =
     let s = g.S.CardSource.card c.args.source.now in
-    sym (judged_pass (kept spec (model s)) fault root_kept [] (sym (c.root-kept.ensures spec known e l i) ∙ c.if-not-root-kept.false))
+    sym (judged_pass (kept spec (model s)) fault root_kept [] (sym (c.root_kept.ensures spec known e l i) ∙ c.if-not-root_kept.false))

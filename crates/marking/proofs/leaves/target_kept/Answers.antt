@@ -6,5 +6,5 @@ use Rattle.marking.proofs.leaves.target_kept.Goals as goal
 
 pub returns-in-Open : goal.returns-in-Open
 returns-in-Open c =
-    c.open-target-kept.ensures c.args.n
+    c.open_target_kept.ensures c.args.n
     ∙ ap (λ (k : Kind). keeps_target (kind_named k) c.args.nodes c.args.n (target_named c.args.target)) (sym c.in-Open.is)

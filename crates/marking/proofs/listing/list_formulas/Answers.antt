@@ -14,29 +14,29 @@ use Rattle.marking.proofs.Places.{handed, refused}
 use Rattle.marking.proofs.Facts.{news, few_formulas, counts_fail, forms_fail, news_fail, unlisted, all_listed, known, ready_for, news_as}
 use Rattle.marking.proofs.listing.list_formulas.Goals as goal
 
-pub returns-in-err-counts-right : goal.returns-in-err-counts-right
-returns-in-err-counts-right g c =
+pub returns-in_err-counts_right : goal.returns-in_err-counts_right
+returns-in_err-counts_right g c =
     let s = g.S.CardSource.card c.args.source.now in
     let spec = game_of (view c.args.specification.now) in
-    let e = c.in-err-counts-right.field-0.0 in
+    let e = c.in_err-counts_right.field-0.0 in
     let r = c.from-residual.result in
     record {
-      judged = λ l. handed e r c.from-residual.ensures.1 ∙ sym (counts_fail spec s (fault_of e) (sym (c.in-err-counts-right.ensures spec)));
+      judged = λ l. handed e r c.from-residual.ensures.1 ∙ sym (counts_fail spec s (fault_of e) (sym (c.in_err-counts_right.ensures spec)));
       listed = λ l. MatchResult-from_err r _ _ c.from-residual.ensures.0 (λ y. tt);
     }
 
-pub returns-in-err-entries-formed : goal.returns-in-err-entries-formed
-returns-in-err-entries-formed g c =
+pub returns-in_err-entries_formed : goal.returns-in_err-entries_formed
+returns-in_err-entries_formed g c =
     let s = g.S.CardSource.card c.args.source.now in
     let spec = game_of (view c.args.specification.now) in
-    let e = c.in-err-entries-formed.field-0.0 in
-    let r = c.from-residual-in-err-entries-formed.result in
-    let counted = sym (c.in-ok-counts-right.ensures spec) in
+    let e = c.in_err-entries_formed.field-0.0 in
+    let r = c.from-residual-in_err-entries_formed.result in
+    let counted = sym (c.in_ok-counts_right.ensures spec) in
     record {
-      judged = λ l. handed e r c.from-residual-in-err-entries-formed.ensures.1
+      judged = λ l. handed e r c.from-residual-in_err-entries_formed.ensures.1
           ∙ sym (forms_fail spec s counted (fault_of e)
-          (sym (c.in-err-entries-formed.ensures spec (sym c.environment-count.ensures) (sym c.system-count.ensures))));
-      listed = λ l. MatchResult-from_err r _ _ c.from-residual-in-err-entries-formed.ensures.0 (λ y. tt);
+          (sym (c.in_err-entries_formed.ensures spec (sym c.environment_count.ensures) (sym c.system_count.ensures))));
+      listed = λ l. MatchResult-from_err r _ _ c.from-residual-in_err-entries_formed.ensures.0 (λ y. tt);
     }
 
 -- once all entries are of good form, the slice is the card's list
@@ -44,39 +44,39 @@ slice_is : (spec : Spec) (s : RawCard) → judged_by spec (model s) count_condit
     → (slice rs : List FormulaRecord) → slice ≡ rs → rs ≡ take 1024 s.formulas → slice ≡ s.formulas
 slice_is spec s counted formed slice rs e q = e ∙ q ∙ take_all 1024 s.formulas (few_formulas spec s counted formed)
 
-pub returns-in-err-index-formulas : goal.returns-in-err-index-formulas
-returns-in-err-index-formulas g c =
+pub returns-in_err-index_formulas : goal.returns-in_err-index_formulas
+returns-in_err-index_formulas g c =
     let s = g.S.CardSource.card c.args.source.now in
     let spec = game_of (view c.args.specification.now) in
-    let e = c.in-err-index-formulas.field-0.0 in
-    let r = c.from-residual-in-err-index-formulas.result in
-    let counted = sym (c.in-ok-counts-right.ensures spec) in
-    let formed = sym (c.in-ok-entries-formed.ensures spec (sym c.environment-count.ensures) (sym c.system-count.ensures)) in
-    let slice = c.as-slice.result.now in
-    let q = slice_is spec s counted formed slice (records_of c.formulas-of-records.result) c.as-slice.ensures c.formulas-of-records.ensures in
+    let e = c.in_err-index_formulas.field-0.0 in
+    let r = c.from-residual-in_err-index_formulas.result in
+    let counted = sym (c.in_ok-counts_right.ensures spec) in
+    let formed = sym (c.in_ok-entries_formed.ensures spec (sym c.environment_count.ensures) (sym c.system_count.ensures)) in
+    let slice = c.as_slice.result.now in
+    let q = slice_is spec s counted formed slice (records_of c.formulas_of-records.result) c.as_slice.ensures c.formulas_of-records.ensures in
     let few : length slice ≤ 1024 = omega (arith, ap length q, few_formulas spec s counted formed) in
     record {
-      judged = λ l. handed e r c.from-residual-in-err-index-formulas.ensures.1
+      judged = λ l. handed e r c.from-residual-in_err-index_formulas.ensures.1
           ∙ sym (news_fail spec s counted formed (fault_of e)
-          (sym (news_as spec s slice q) ∙ sym (c.in-err-index-formulas.ensures.judged few l spec (model s) (ap (map entry_of) (sym q)))));
-      listed = λ l. MatchResult-from_err r _ _ c.from-residual-in-err-index-formulas.ensures.0 (λ y. tt);
+          (sym (news_as spec s slice q) ∙ sym (c.in_err-index_formulas.ensures.judged few l spec (model s) (ap (map entry_of) (sym q)))));
+      listed = λ l. MatchResult-from_err r _ _ c.from-residual-in_err-index_formulas.ensures.0 (λ y. tt);
     }
 
-pub returns-in-default : goal.returns-in-default
-returns-in-default g c =
+pub returns-in_default : goal.returns-in_default
+returns-in_default g c =
     let s = g.S.CardSource.card c.args.source.now in
     let spec = game_of (view c.args.specification.now) in
-    let counted = sym (c.in-ok-counts-right.ensures spec) in
-    let formed = sym (c.in-ok-entries-formed.ensures spec (sym c.environment-count.ensures) (sym c.system-count.ensures)) in
-    let slice = c.as-slice.result.now in
-    let q = slice_is spec s counted formed slice (records_of c.formulas-of-records.result) c.as-slice.ensures c.formulas-of-records.ensures in
+    let counted = sym (c.in_ok-counts_right.ensures spec) in
+    let formed = sym (c.in_ok-entries_formed.ensures spec (sym c.environment_count.ensures) (sym c.system_count.ensures)) in
+    let slice = c.as_slice.result.now in
+    let q = slice_is spec s counted formed slice (records_of c.formulas_of-records.result) c.as_slice.ensures c.formulas_of-records.ensures in
     let few : length slice ≤ 1024 = omega (arith, ap length q, few_formulas spec s counted formed) in
     record {
       judged = λ l.
-          let new = sym (news_as spec s slice q) ∙ sym (c.in-ok-index-formulas.ensures.judged few l spec (model s) (ap (map entry_of) (sym q))) in
-          let ready = ready_for spec s counted formed new slice c.index-formulas.new.slots q (c.in-ok-index-formulas.ensures.indexed few l) in
-          refused c.formula-missing.result _ c.formula-missing.ensures
-          ∙ sym (unlisted spec s counted formed new c.spec-places.result c.in-default.not-Some (c.spec-places.ensures s.formulas ready));
+          let new = sym (news_as spec s slice q) ∙ sym (c.in_ok-index_formulas.ensures.judged few l spec (model s) (ap (map entry_of) (sym q))) in
+          let ready = ready_for spec s counted formed new slice c.index_formulas.new.slots q (c.in_ok-index_formulas.ensures.indexed few l) in
+          refused c.formula_missing.result _ c.formula_missing.ensures
+          ∙ sym (unlisted spec s counted formed new c.spec_places.result c.in_default.not-Some (c.spec_places.ensures s.formulas ready));
       listed = λ l. tt;
     }
 
@@ -84,20 +84,20 @@ pub returns : goal.returns
 returns g c =
     let s = g.S.CardSource.card c.args.source.now in
     let spec = game_of (view c.args.specification.now) in
-    let counted = sym (c.in-ok-counts-right.ensures spec) in
-    let formed = sym (c.in-ok-entries-formed.ensures spec (sym c.environment-count.ensures) (sym c.system-count.ensures)) in
-    let slice = c.as-slice.result.now in
-    let q = slice_is spec s counted formed slice (records_of c.formulas-of-records.result) c.as-slice.ensures c.formulas-of-records.ensures in
+    let counted = sym (c.in_ok-counts_right.ensures spec) in
+    let formed = sym (c.in_ok-entries_formed.ensures spec (sym c.environment_count.ensures) (sym c.system_count.ensures)) in
+    let slice = c.as_slice.result.now in
+    let q = slice_is spec s counted formed slice (records_of c.formulas_of-records.result) c.as_slice.ensures c.formulas_of-records.ensures in
     let few : length slice ≤ 1024 = omega (arith, ap length q, few_formulas spec s counted formed) in
     let p = c.in-Some.places in
     record {
       judged = λ l.
-          let new = sym (news_as spec s slice q) ∙ sym (c.in-ok-index-formulas.ensures.judged few l spec (model s) (ap (map entry_of) (sym q))) in
-          let ready = ready_for spec s counted formed new slice c.index-formulas.new.slots q (c.in-ok-index-formulas.ensures.indexed few l) in
+          let new = sym (news_as spec s slice q) ∙ sym (c.in_ok-index_formulas.ensures.judged few l spec (model s) (ap (map entry_of) (sym q))) in
+          let ready = ready_for spec s counted formed new slice c.index_formulas.new.slots q (c.in_ok-index_formulas.ensures.indexed few l) in
           sym (all_listed spec s counted formed new p (c.in-Some.ensures s.formulas ready));
       listed = λ l.
-          let new = sym (news_as spec s slice q) ∙ sym (c.in-ok-index-formulas.ensures.judged few l spec (model s) (ap (map entry_of) (sym q))) in
-          let ready = ready_for spec s counted formed new slice c.index-formulas.new.slots q (c.in-ok-index-formulas.ensures.indexed few l) in
-          known spec s counted formed new c.formulas-of-records.result p c.index-formulas.new.slots
-          (sym c.as-slice.ensures ∙ q) ready (c.in-Some.ensures s.formulas ready);
+          let new = sym (news_as spec s slice q) ∙ sym (c.in_ok-index_formulas.ensures.judged few l spec (model s) (ap (map entry_of) (sym q))) in
+          let ready = ready_for spec s counted formed new slice c.index_formulas.new.slots q (c.in_ok-index_formulas.ensures.indexed few l) in
+          known spec s counted formed new c.formulas_of-records.result p c.index_formulas.new.slots
+          (sym c.as_slice.ensures ∙ q) ready (c.in-Some.ensures s.formulas ready);
     }

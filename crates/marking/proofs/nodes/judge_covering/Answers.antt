@@ -6,14 +6,14 @@ use Rattle.marking.proofs.Places.{refused}
 use Rattle.marking.proofs.Rows.{covering_judged}
 use Rattle.marking.proofs.nodes.judge_covering.Goals as goal
 
-pub returns-then-not-covering-kept : goal.returns-then-not-covering-kept
-returns-then-not-covering-kept g c spec ready e =
+pub returns-then-not-covering_kept : goal.returns-then-not-covering_kept
+returns-then-not-covering_kept g c spec ready e =
     let s = g.S.CardSource.card c.args.source.now in
     let n = c.args.n in
-    refused c.covering-wrong.result _ c.covering-wrong.ensures
+    refused c.covering_wrong.result _ c.covering_wrong.ensures
     ∙ sym (judged_fail (kept spec (model s)) fault (covering_kept n) []
     (sym (covering_judged spec s c.args.terms.environment c.args.terms.system c.args.node n ready e c.covering_kept.result c.covering_kept.ensures)
-    ∙ c.if-not-covering-kept.true))
+    ∙ c.if-not-covering_kept.true))
 
 pub returns : goal.returns
 returns g c spec ready e =
@@ -21,4 +21,4 @@ returns g c spec ready e =
     let n = c.args.n in
     sym (judged_pass (kept spec (model s)) fault (covering_kept n) []
     (sym (covering_judged spec s c.args.terms.environment c.args.terms.system c.args.node n ready e c.covering_kept.result c.covering_kept.ensures)
-    ∙ c.if-not-covering-kept.false))
+    ∙ c.if-not-covering_kept.false))

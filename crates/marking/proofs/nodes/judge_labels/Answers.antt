@@ -10,15 +10,15 @@ loop-k-init g c spec known kinds =
     let s = g.S.CardSource.card c.args.source.now in
     walk_start (kept spec (model s)) fault label_kept c.args.node.label_count c.args.node.first_label
 
-pub returns-then-not-label-kept : goal.returns-then-not-label-kept
-returns-then-not-label-kept g c spec known kinds =
+pub returns-then-not-label_kept : goal.returns-then-not-label_kept
+returns-then-not-label_kept g c spec known kinds =
     let s = g.S.CardSource.card c.args.source.now in
     let first = c.args.node.first_label in
     let k = c.loop-k.k in
-    refused c.label-wrong.result _ c.label-wrong.ensures
+    refused c.label_wrong.result _ c.label_wrong.ensures
     ∙ sym (walk_fail (kept spec (model s)) fault label_kept c.args.node.label_count first k c.loop-k-test.true
-    (sym (label_judged spec s known c.args.kind kinds (first + k) c.label-of.result c.label-of.ensures)
-    ∙ sym c.label-kept.ensures ∙ c.if-not-label-kept.true))
+    (sym (label_judged spec s known c.args.kind kinds (first + k) c.label_of.result c.label_of.ensures)
+    ∙ sym c.label_kept.ensures ∙ c.if-not-label_kept.true))
     ∙ c.loop-k.invariant spec known kinds
 
 pub loop-k-preserved : goal.loop-k-preserved
@@ -27,8 +27,8 @@ loop-k-preserved g c spec known kinds =
     let first = c.args.node.first_label in
     let k = c.loop-k.k in
     sym (walk_pass (kept spec (model s)) fault label_kept c.args.node.label_count first k c.loop-k-test.true
-    (sym (label_judged spec s known c.args.kind kinds (first + k) c.label-of.result c.label-of.ensures)
-    ∙ sym c.label-kept.ensures ∙ c.if-not-label-kept.false))
+    (sym (label_judged spec s known c.args.kind kinds (first + k) c.label_of.result c.label_of.ensures)
+    ∙ sym c.label_kept.ensures ∙ c.if-not-label_kept.false))
     ∙ c.loop-k.invariant spec known kinds
 
 pub returns : goal.returns

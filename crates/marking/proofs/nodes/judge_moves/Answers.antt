@@ -11,20 +11,20 @@ loop-k-init g c spec n p =
     let s = g.S.CardSource.card c.args.source.now in
     groups_start (kept spec (model s)) fault (at_move n) c.args.node.move_count c.args.node.first_move
 
-pub returns-in-err-judge-move : goal.returns-in-err-judge-move
-returns-in-err-judge-move g c spec n p =
+pub returns-in_err-judge_move : goal.returns-in_err-judge_move
+returns-in_err-judge_move g c spec n p =
     let s = g.S.CardSource.card c.args.source.now in
-    let e = c.in-err-judge-move.field-0.0 in
+    let e = c.in_err-judge_move.field-0.0 in
     handed e c.from-residual.result c.from-residual.ensures.1
     ∙ sym (groups_fail (kept spec (model s)) fault (at_move n) c.args.node.move_count c.args.node.first_move c.loop-k.k (fault_of e)
-    c.loop-k-test.true (sym (c.in-err-judge-move.ensures spec n p)))
+    c.loop-k-test.true (sym (c.in_err-judge_move.ensures spec n p)))
     ∙ c.loop-k.invariant spec n p
 
 pub loop-k-preserved : goal.loop-k-preserved
 loop-k-preserved g c spec n p =
     let s = g.S.CardSource.card c.args.source.now in
     sym (groups_pass (kept spec (model s)) fault (at_move n) c.args.node.move_count c.args.node.first_move c.loop-k.k
-    c.loop-k-test.true (sym (c.in-ok-judge-move.ensures spec n p)))
+    c.loop-k-test.true (sym (c.in_ok-judge_move.ensures spec n p)))
     ∙ c.loop-k.invariant spec n p
 
 pub returns : goal.returns

@@ -8,64 +8,64 @@ use Rattle.marking.proofs.Places.{handed}
 use Rattle.marking.proofs.Rows.{labels_by, targets_by, moves_by, node_is, splitting, prepared}
 use Rattle.marking.proofs.nodes.judge_node.Goals as goal
 
-pub returns-in-err-judge-labels : goal.returns-in-err-judge-labels
-returns-in-err-judge-labels g c spec k l =
+pub returns-in_err-judge_labels : goal.returns-in_err-judge_labels
+returns-in_err-judge_labels g c spec k l =
     let s = g.S.CardSource.card c.args.source.now in
-    let x = c.node-of-node.result in
+    let x = c.node_of-node.result in
     let n = c.args.n in
-    let e = c.in-err-judge-labels.field-0.0 in
+    let e = c.in_err-judge_labels.field-0.0 in
     let y = node_of x in
     handed e c.from-residual.result c.from-residual.ensures.1
     ∙ sym (group_fail (kept spec (model s)) fault (labels_by y) ((covering_kept n ∷ []) ++ (targets_by n y ++ moves_by n y)) (fault_of e)
-    (sym (c.in-err-judge-labels.ensures spec k.labelled k.kinds)))
-    ∙ node_is spec s x n c.node-of-node.ensures
+    (sym (c.in_err-judge_labels.ensures spec k.labelled k.kinds)))
+    ∙ node_is spec s x n c.node_of-node.ensures
 
-pub returns-in-err-judge-covering : goal.returns-in-err-judge-covering
-returns-in-err-judge-covering g c spec k l =
+pub returns-in_err-judge_covering : goal.returns-in_err-judge_covering
+returns-in_err-judge_covering g c spec k l =
     let s = g.S.CardSource.card c.args.source.now in
-    let x = c.node-of-node.result in
+    let x = c.node_of-node.result in
     let n = c.args.n in
-    let e = c.in-err-judge-covering.field-0.0 in
+    let e = c.in_err-judge_covering.field-0.0 in
     let y = node_of x in
-    let ready = splitting spec s c.args.terms c.args.records.now c.args.slots.now k x n c.node-of-node.ensures l in
-    handed e c.from-residual-in-err-judge-covering.result c.from-residual-in-err-judge-covering.ensures.1
+    let ready = splitting spec s c.args.terms c.args.records.now c.args.slots.now k x n c.node_of-node.ensures l in
+    handed e c.from-residual-in_err-judge_covering.result c.from-residual-in_err-judge_covering.ensures.1
     ∙ sym (group_pass (kept spec (model s)) fault (labels_by y) ((covering_kept n ∷ []) ++ (targets_by n y ++ moves_by n y))
-    (sym (c.in-ok-judge-labels.ensures spec k.labelled k.kinds))
+    (sym (c.in_ok-judge_labels.ensures spec k.labelled k.kinds))
     ∙ group_fail (kept spec (model s)) fault (covering_kept n ∷ []) (targets_by n y ++ moves_by n y) (fault_of e)
-    (sym (c.in-err-judge-covering.ensures spec ready c.node-of-node.ensures)))
-    ∙ node_is spec s x n c.node-of-node.ensures
+    (sym (c.in_err-judge_covering.ensures spec ready c.node_of-node.ensures)))
+    ∙ node_is spec s x n c.node_of-node.ensures
 
-pub returns-in-err-judge-targets : goal.returns-in-err-judge-targets
-returns-in-err-judge-targets g c spec k l =
+pub returns-in_err-judge_targets : goal.returns-in_err-judge_targets
+returns-in_err-judge_targets g c spec k l =
     let s = g.S.CardSource.card c.args.source.now in
-    let x = c.node-of-node.result in
+    let x = c.node_of-node.result in
     let n = c.args.n in
-    let e = c.in-err-judge-targets.field-0.0 in
+    let e = c.in_err-judge_targets.field-0.0 in
     let y = node_of x in
-    let ready = splitting spec s c.args.terms c.args.records.now c.args.slots.now k x n c.node-of-node.ensures l in
-    handed e c.from-residual-in-err-judge-targets.result c.from-residual-in-err-judge-targets.ensures.1
+    let ready = splitting spec s c.args.terms c.args.records.now c.args.slots.now k x n c.node_of-node.ensures l in
+    handed e c.from-residual-in_err-judge_targets.result c.from-residual-in_err-judge_targets.ensures.1
     ∙ sym (group_pass (kept spec (model s)) fault (labels_by y) ((covering_kept n ∷ []) ++ (targets_by n y ++ moves_by n y))
-    (sym (c.in-ok-judge-labels.ensures spec k.labelled k.kinds))
+    (sym (c.in_ok-judge_labels.ensures spec k.labelled k.kinds))
     ∙ group_pass (kept spec (model s)) fault (covering_kept n ∷ []) (targets_by n y ++ moves_by n y)
-    (sym (c.in-ok-judge-covering.ensures spec ready c.node-of-node.ensures))
+    (sym (c.in_ok-judge_covering.ensures spec ready c.node_of-node.ensures))
     ∙ group_fail (kept spec (model s)) fault (targets_by n y) (moves_by n y) (fault_of e)
-    (sym (c.in-err-judge-targets.ensures spec c.node_count.ensures k.kinds)))
-    ∙ node_is spec s x n c.node-of-node.ensures
+    (sym (c.in_err-judge_targets.ensures spec c.node_count.ensures k.kinds)))
+    ∙ node_is spec s x n c.node_of-node.ensures
 
 pub returns : goal.returns
 returns g c spec k l =
     let s = g.S.CardSource.card c.args.source.now in
-    let x = c.node-of-node.result in
+    let x = c.node_of-node.result in
     let n = c.args.n in
     let y = node_of x in
-    let ready = splitting spec s c.args.terms c.args.records.now c.args.slots.now k x n c.node-of-node.ensures l in
-    let p = prepared spec s c.args.terms c.args.records.now c.args.slots.now k x n c.node-of-node.ensures c.obligation-marks-marks.result
-    c.obligation-marks-marks.ensures in
-    c.judge-moves.ensures spec n p
+    let ready = splitting spec s c.args.terms c.args.records.now c.args.slots.now k x n c.node_of-node.ensures l in
+    let p = prepared spec s c.args.terms c.args.records.now c.args.slots.now k x n c.node_of-node.ensures c.obligation_marks-marks.result
+    c.obligation_marks-marks.ensures in
+    c.judge_moves.ensures spec n p
     ∙ sym (group_pass (kept spec (model s)) fault (labels_by y) ((covering_kept n ∷ []) ++ (targets_by n y ++ moves_by n y))
-    (sym (c.in-ok-judge-labels.ensures spec k.labelled k.kinds))
+    (sym (c.in_ok-judge_labels.ensures spec k.labelled k.kinds))
     ∙ group_pass (kept spec (model s)) fault (covering_kept n ∷ []) (targets_by n y ++ moves_by n y)
-    (sym (c.in-ok-judge-covering.ensures spec ready c.node-of-node.ensures))
+    (sym (c.in_ok-judge_covering.ensures spec ready c.node_of-node.ensures))
     ∙ group_pass (kept spec (model s)) fault (targets_by n y) (moves_by n y)
-    (sym (c.in-ok-judge-targets.ensures spec c.node_count.ensures k.kinds)))
-    ∙ node_is spec s x n c.node-of-node.ensures
+    (sym (c.in_ok-judge_targets.ensures spec c.node_count.ensures k.kinds)))
+    ∙ node_is spec s x n c.node_of-node.ensures

@@ -11,17 +11,17 @@ loop-k-init g c spec nodes kinds =
     let s = g.S.CardSource.card c.args.source.now in
     walk_start (kept spec (model s)) fault (target_kept c.args.n) c.args.node.move_count c.args.node.first_move
 
-pub returns-then-not-target-kept : goal.returns-then-not-target-kept
-returns-then-not-target-kept g c spec nodes kinds =
+pub returns-then-not-target_kept : goal.returns-then-not-target_kept
+returns-then-not-target_kept g c spec nodes kinds =
     let s = g.S.CardSource.card c.args.source.now in
     let first = c.args.node.first_move in
     let k = c.loop-k.k in
     let n = c.args.n in
-    refused c.target-wrong.result _ c.target-wrong.ensures
+    refused c.target_wrong.result _ c.target_wrong.ensures
     ∙ sym (walk_fail (kept spec (model s)) fault (target_kept n) c.args.node.move_count first k c.loop-k-test.true
-    (sym (target_judged spec s c.args.kind kinds c.args.nodes nodes n (first + k) c.move-of.result c.move-of.ensures
-    (target_named c.target-of-target.result) c.target-of-target.ensures)
-    ∙ sym c.target_kept.ensures ∙ c.if-not-target-kept.true))
+    (sym (target_judged spec s c.args.kind kinds c.args.nodes nodes n (first + k) c.move_of.result c.move_of.ensures
+    (target_named c.target_of-target.result) c.target_of-target.ensures)
+    ∙ sym c.target_kept.ensures ∙ c.if-not-target_kept.true))
     ∙ c.loop-k.invariant spec nodes kinds
 
 pub loop-k-preserved : goal.loop-k-preserved
@@ -31,9 +31,9 @@ loop-k-preserved g c spec nodes kinds =
     let k = c.loop-k.k in
     let n = c.args.n in
     sym (walk_pass (kept spec (model s)) fault (target_kept n) c.args.node.move_count first k c.loop-k-test.true
-    (sym (target_judged spec s c.args.kind kinds c.args.nodes nodes n (first + k) c.move-of.result c.move-of.ensures
-    (target_named c.target-of-target.result) c.target-of-target.ensures)
-    ∙ sym c.target_kept.ensures ∙ c.if-not-target-kept.false))
+    (sym (target_judged spec s c.args.kind kinds c.args.nodes nodes n (first + k) c.move_of.result c.move_of.ensures
+    (target_named c.target_of-target.result) c.target_of-target.ensures)
+    ∙ sym c.target_kept.ensures ∙ c.if-not-target_kept.false))
     ∙ c.loop-k.invariant spec nodes kinds
 
 pub returns : goal.returns

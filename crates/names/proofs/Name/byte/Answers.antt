@@ -5,4 +5,4 @@ use Rattle.names.proofs.Name.byte.Goals as goal
 
 pub returns : goal.returns
 returns c =
-    c.byte-of.ensures ∙ read_nth c.word.result.now c.args.i ∙ ap (λ w. slice_get w c.args.i) c.word.ensures
+    c.byte_of.ensures ∙ read_nth c.word.result.now c.args.i ∙ ap (λ w. slice_get w c.args.i) c.word.ensures

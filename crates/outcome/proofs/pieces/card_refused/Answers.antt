@@ -6,10 +6,10 @@ use Rattle.outcome.proofs.pieces.card_refused.Goals as goal
 pub returns : goal.returns
 returns c =
     let a = made_none c.new-line.ensures in
-    let b = made_bytes (codes "refused ") a c.push-bytes.ensures in
-    let d = made_u8 c.args.number (omega arith) b c.push-number.ensures.line in
-    let e = made_bytes (codes " list ") d c.push-bytes-2.ensures in
-    let f = made_u8 c.args.list (omega arith) e c.push-number-2.ensures.line in
-    let g = made_bytes (codes " number ") f c.push-bytes-3.ensures in
-    let h = made_usize c.args.place (omega arith) g c.push-number-3.ensures.line in
+    let b = made_bytes (codes "refused ") a c.push_bytes.ensures in
+    let d = made_u8 c.args.number (omega arith) b c.push_number.ensures.line in
+    let e = made_bytes (codes " list ") d c.push_bytes-2.ensures in
+    let f = made_u8 c.args.list (omega arith) e c.push_number-2.ensures.line in
+    let g = made_bytes (codes " number ") f c.push_bytes-3.ensures in
+    let h = made_usize c.args.place (omega arith) g c.push_number-3.ensures.line in
     made_whole (made_bytes line_end h c.push.ensures) (omega arith)

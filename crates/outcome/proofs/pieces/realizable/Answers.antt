@@ -6,8 +6,8 @@ use Rattle.outcome.proofs.pieces.realizable.Goals as goal
 pub returns : goal.returns
 returns c =
     let a = made_none c.new-line.ensures in
-    let b = made_bytes (codes "realizable nodes ") a c.push-bytes.ensures in
-    let d = made_u16 c.args.nodes (omega arith) b c.push-number.ensures.line in
-    let e = made_bytes (codes " moves ") d c.push-bytes-2.ensures in
-    let f = made_u16 c.args.moves (omega arith) e c.push-number-2.ensures.line in
+    let b = made_bytes (codes "realizable nodes ") a c.push_bytes.ensures in
+    let d = made_u16 c.args.nodes (omega arith) b c.push_number.ensures.line in
+    let e = made_bytes (codes " moves ") d c.push_bytes-2.ensures in
+    let f = made_u16 c.args.moves (omega arith) e c.push_number-2.ensures.line in
     made_whole (made_bytes line_end f c.push.ensures) (omega arith)

@@ -6,5 +6,5 @@ use Rattle.parser.proofs.lines.expect_end.Goals as goal
 pub returns : goal.returns
 unfolding end_in
 returns c =
-    c.expected.ensures ∙ ap (λ b. expected b c.look-seen.result) c.is-end.ensures
+    c.expected.ensures ∙ ap (λ b. expected b c.look-seen.result) c.is_end.ensures
     ∙ ap (λ x. expected (is_end x.token) x) c.look-seen.ensures.value

@@ -6,5 +6,5 @@ use Rattle.parser.proofs.lines.expect_line.Goals as goal
 pub returns : goal.returns
 unfolding line_in
 returns c =
-    c.expected.ensures ∙ ap (λ b. expected b c.look-seen.result) c.is-line.ensures
+    c.expected.ensures ∙ ap (λ b. expected b c.look-seen.result) c.is_line.ensures
     ∙ ap (λ x. expected (is_line x.token) x) c.look-seen.ensures.value

@@ -6,5 +6,5 @@ use Rattle.parser.proofs.lines.expect_true.Goals as goal
 pub returns : goal.returns
 unfolding true_in
 returns c =
-    c.expected.ensures ∙ ap (λ b. expected b c.look-seen.result) c.is-true.ensures
+    c.expected.ensures ∙ ap (λ b. expected b c.look-seen.result) c.is_true.ensures
     ∙ ap (λ x. expected (is_true x.token) x) c.look-seen.ensures.value

@@ -26,16 +26,16 @@ returns-in-2 g c rs i ready l e before =
     let R = g.R.Reading.literals c.args.reading.now in
     let f = c.args.f in
     let ok = ready.listing in
-    let o = c.rest-of-literal.result in
-    rested_entry rs ok i l f e R 2 o c.in-2.is (rested_literal rs ok R true f.variable o c.rest-of-literal.ensures)
+    let o = c.rest_of_literal.result in
+    rested_entry rs ok i l f e R 2 o c.in-2.is (rested_literal rs ok R true f.variable o c.rest_of_literal.ensures)
 
 pub returns-in-3 : goal.returns-in-3
 returns-in-3 g c rs i ready l e before =
     let R = g.R.Reading.literals c.args.reading.now in
     let f = c.args.f in
     let ok = ready.listing in
-    let o = c.rest-of-literal-in-3.result in
-    rested_entry rs ok i l f e R 3 o c.in-3.is (rested_literal rs ok R false f.variable o c.rest-of-literal-in-3.ensures)
+    let o = c.rest_of_literal-in-3.result in
+    rested_entry rs ok i l f e R 3 o c.in-3.is (rested_literal rs ok R false f.variable o c.rest_of_literal-in-3.ensures)
 
 pub returns-in-4 : goal.returns-in-4
 returns-in-4 g c rs i ready l e before =
@@ -43,7 +43,7 @@ returns-in-4 g c rs i ready l e before =
     let f = c.args.f in
     let ok = ready.listing in
     let p = and_parts rs ok i l f e c.in-4.is in
-    let o = c.conjoin-both.result in
+    let o = c.conjoin_both.result in
     let x = c.recalled.result in
     let y = c.recalled-in-4.result in
     rested_entry rs ok i l f e R 4 o c.in-4.is
@@ -52,7 +52,7 @@ returns-in-4 g c rs i ready l e before =
     c.recalled.result c.recalled.ensures (before f.a p.0.1))
     (recalled_rested R (formulas_of rs) (formula_of rs f.b) (get_or c.args.memo.now f.b None)
     c.recalled-in-4.result c.recalled-in-4.ensures (before f.b p.1.1))
-    c.conjoin-both.ensures)
+    c.conjoin_both.ensures)
 
 pub returns-in-5 : goal.returns-in-5
 returns-in-5 g c rs i ready l e before =
@@ -60,7 +60,7 @@ returns-in-5 g c rs i ready l e before =
     let f = c.args.f in
     let ok = ready.listing in
     let p = or_parts rs ok i l f e c.in-5.is in
-    let o = c.disjoin-both.result in
+    let o = c.disjoin_both.result in
     let x = c.recalled-in-5.result in
     let y = c.recalled-in-5-2.result in
     rested_entry rs ok i l f e R 5 o c.in-5.is
@@ -69,7 +69,7 @@ returns-in-5 g c rs i ready l e before =
     c.recalled-in-5.result c.recalled-in-5.ensures (before f.a p.0.1))
     (recalled_rested R (formulas_of rs) (formula_of rs f.b) (get_or c.args.memo.now f.b None)
     c.recalled-in-5-2.result c.recalled-in-5-2.ensures (before f.b p.1.1))
-    c.disjoin-both.ensures)
+    c.disjoin_both.ensures)
 
 pub returns-in-6 : goal.returns-in-6
 returns-in-6 g c rs i ready l e before =
@@ -77,8 +77,8 @@ returns-in-6 g c rs i ready l e before =
     let f = c.args.f in
     let ok = ready.listing in
     let p = next_parts rs ok i l f e c.in-6.is in
-    let o = c.rest-of-next.result in
-    rested_entry rs ok i l f e R 6 o c.in-6.is (c.rest-of-next.ensures rs R ready (omega (arith, p.1.1)) p.0.0)
+    let o = c.rest_of_next.result in
+    rested_entry rs ok i l f e R 6 o c.in-6.is (c.rest_of_next.ensures rs R ready (omega (arith, p.1.1)) p.0.0)
 
 pub returns-in-7 : goal.returns-in-7
 returns-in-7 g c rs i ready l e before =
@@ -86,9 +86,9 @@ returns-in-7 g c rs i ready l e before =
     let f = c.args.f in
     let ok = ready.listing in
     let p = always_parts rs ok i l f e c.in-7.is in
-    let o = c.rest-of-always.result in
+    let o = c.rest_of_always.result in
     rested_entry rs ok i l f e R 7 o c.in-7.is
-    (c.rest-of-always.ensures rs R ready (omega (arith, p.1.1)) p.0.0
+    (c.rest_of_always.ensures rs R ready (omega (arith, p.1.1)) p.0.0
     (recalled_rested R (formulas_of rs) (formula_of rs f.a) (get_or c.args.memo.now f.a None)
     c.recalled-in-7.result c.recalled-in-7.ensures (before f.a p.1.1)))
 
@@ -98,11 +98,11 @@ returns-in-8 g c rs i ready l e before =
     let f = c.args.f in
     let ok = ready.listing in
     let p = eventually_parts rs ok i l f e c.in-8.is in
-    let o = c.rest-of-eventually.result in
+    let o = c.rest_of_eventually.result in
     rested_entry rs ok i l f e R 8 o c.in-8.is
-    (c.rest-of-eventually.ensures rs R ready (omega (arith, p.1.1)) p.0.0
+    (c.rest_of_eventually.ensures rs R ready (omega (arith, p.1.1)) p.0.0
     (recalled_rested R (formulas_of rs) (formula_of rs f.a) (get_or c.args.memo.now f.a None)
     c.recalled-in-8.result c.recalled-in-8.ensures (before f.a p.1.1)))
 
-pub returns-in-default : goal.returns-in-default
-returns-in-default g c rs i ready l e before = absurd (known_kind rs ready.listing i l c.args.f e (omega arith))
+pub returns-in_default : goal.returns-in_default
+returns-in_default g c rs i ready l e before = absurd (known_kind rs ready.listing i l c.args.f e (omega arith))

@@ -12,7 +12,7 @@ returns-then-n-gt0 c rs R ready la l p =
     range_later R eventually disjoin (eventually_ranged R) (formulas_of rs) (formula_of rs c.args.a) c.args.n c.args.m
     c.listed.result (omega arith) l
     (eventually_placed rs ready.listing c.args.a (c.args.n - 1) (c.args.m - 1) la c.listed.result
-    (subst (λ (f : FormulaRecord). Listed c.args.slots.now f c.listed.result) c.later-range.ensures
+    (subst (λ (f : FormulaRecord). Listed c.args.slots.now f c.listed.result) c.later_range.ensures
     c.listed.ensures rs ready))
 
 pub returns-then-m-eq0 : goal.returns-then-m-eq0
@@ -25,7 +25,7 @@ returns c rs R ready la l p =
     let y = c.listed-2.result in
     range_on R eventually disjoin (eventually_ranged R) rs c.args.slots.now ready c.args.n c.args.m
     (formula_of rs c.args.a) c.args.body y
-    c.disjoin-both.result (omega arith) c.if-m-eq0.false p
+    c.disjoin_both.result (omega arith) c.if-m-eq0.false p
     (eventually_placed rs ready.listing c.args.a 0 (c.args.m - 1) la y
     (subst (λ (f : FormulaRecord). Listed c.args.slots.now f y) c.shorter.ensures c.listed-2.ensures rs ready))
-    c.disjoin-both.ensures
+    c.disjoin_both.ensures

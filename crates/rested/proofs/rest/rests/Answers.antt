@@ -13,12 +13,12 @@ loop-i-preserved g c =
     let rs = c.args.records.now in
     let i = c.loop-i.i in
     let memo = c.loop-i.memo in
-    let v = c.rest-of.result in
+    let v = c.rest_of.result in
     let P : ℕ → Option ℕ → Type 0 = λ k o. Rested (g.R.Reading.literals c.args.reading.now) (formulas_of rs) (formula_of rs k) o in
     let l : i < length memo = omega (arith, c.loop-i.invariant.2, c.min-count.ensures) in
     let h : i < length rs = omega (arith, c.min-count.ensures) in (
       λ ready. filled_more P memo i v l (c.loop-i.invariant.0 ready)
-          (c.rest-of.ensures rs i ready h (entry_at_lem rs i) (c.loop-i.invariant.0 ready)),
+          (c.rest_of.ensures rs i ready h (entry_at_lem rs i) (c.loop-i.invariant.0 ready)),
       empty_more memo i v c.loop-i.invariant.1,
       length-set memo i v ∙ c.loop-i.invariant.2,
     )

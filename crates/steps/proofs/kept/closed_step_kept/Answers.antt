@@ -9,11 +9,11 @@ use Rattle.steps.proofs.kept.closed_step_kept.Goals as goal
 pub returns-in-End : goal.returns-in-End
 returns-in-End g c spec S known e listed members =
     let s = g.S.CardSource.card c.args.source.now in
-    c.holds-false.ensures spec S known e listed members
+    c.holds_false.ensures spec S known e listed members
     ∙ ap (λ (t : Target). keeps_step closed (model s) S (target_named t)) (sym c.in-End.is)
 
 pub returns-in-Node : goal.returns-in-Node
 returns-in-Node g c spec S known e listed members =
     let s = g.S.CardSource.card c.args.source.now in
-    c.covers-label.ensures spec S known e listed members
+    c.covers_label.ensures spec S known e listed members
     ∙ ap (λ (t : Target). keeps_step closed (model s) S (target_named t)) (sym c.in-Node.is)

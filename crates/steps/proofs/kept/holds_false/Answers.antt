@@ -6,7 +6,7 @@ pub returns : goal.returns
 returns g c spec S known e listed members =
     let s = g.S.CardSource.card c.args.source.now in
     let rs = c.args.records.now in
-    c.is-marked.ensures
+    c.is_marked.ensures
     ∙ false_held spec s known S (listed_as rs s.formulas e S listed) c.args.rests.now c.hold.new.marks
     (members_as rs s.formulas e S c.args.rests.now members)
     (held_as rs s.formulas e c.args.rests.now c.hold.new.marks c.hold.ensures.law)

@@ -18,10 +18,10 @@ loop-k-init g c =
 pub loop-k-preserved : goal.loop-k-preserved
 loop-k-preserved g c =
     let s = g.S.CardSource.card c.args.source.now in (
-      ap length c.set-mark.ensures ∙ mark_length c.loop-k.marks c.label-of-formula.result ∙ c.loop-k.invariant.0,
+      ap length c.set_mark.ensures ∙ mark_length c.loop-k.marks c.label_of-formula.result ∙ c.loop-k.invariant.0,
       λ spec known S h.
-          label_more spec s known S c.args.node.first_label c.loop-k.k c.label-of-formula.result c.loop-k.marks c.set-mark.new.marks
-          c.loop-k.invariant.0 c.label-of-formula.ensures c.set-mark.ensures (c.loop-k.invariant.1 spec known S h),
+          label_more spec s known S c.args.node.first_label c.loop-k.k c.label_of-formula.result c.loop-k.marks c.set_mark.new.marks
+          c.loop-k.invariant.0 c.label_of-formula.ensures c.set_mark.ensures (c.loop-k.invariant.1 spec known S h),
     )
 
 pub returns : goal.returns

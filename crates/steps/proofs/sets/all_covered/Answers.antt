@@ -1,23 +1,23 @@
 use Rattle.std.proofs.Common.{sym, ◌∙◌, arith, below_more}
 use Rattle.steps.proofs.Sifts.{all_covered, not_all_covered, true_false}
 use Rattle.steps.proofs.sets.all_covered.Goals as goal
-use Rattle.steps.proofs.sets.all_covered.Goals.{else-is-marked-via-then-is-marked+else-not-is-marked, else-is-marked-via-else-is-marked}
+use Rattle.steps.proofs.sets.all_covered.Goals.{else-is_marked-via-then-is_marked+else-not-is_marked, else-is_marked-via-else-is_marked}
 
 pub loop-i-init : goal.loop-i-init
 loop-i-init c j l = absurd (omega arith)
 
-pub returns-then-not-is-marked : goal.returns-then-not-is-marked
-returns-then-not-is-marked c spec rs S L n t listed members covering =
+pub returns-then-not-is_marked : goal.returns-then-not-is_marked
+returns-then-not-is_marked c spec rs S L n t listed members covering =
     sym (not_all_covered spec rs t S listed c.args.marks.now members L c.args.covered.now covering c.loop-i.i
-    (omega (arith, c.min-i-end.ensures)) (sym c.is-marked.ensures ∙ c.if-is-marked.true)
-    (sym c.is-marked-then-is-marked.ensures ∙ c.if-not-is-marked.true))
+    (omega (arith, c.min-i-end.ensures)) (sym c.is_marked.ensures ∙ c.if-is_marked.true)
+    (sym c.is_marked-then-is_marked.ensures ∙ c.if-not-is_marked.true))
 
 pub loop-i-preserved : goal.loop-i-preserved
 loop-i-preserved c =
     below_more _ _ c.loop-i.invariant
-    (elim c.else-is-marked.branch [
-      | else-is-marked-via-then-is-marked+else-not-is-marked w ↦ λ m. sym w.is-marked-then-is-marked.ensures ∙ w.if-not-is-marked.false
-      | else-is-marked-via-else-is-marked w ↦ λ m. absurd (true_false m (sym c.is-marked.ensures ∙ w.if-is-marked.false))
+    (elim c.else-is_marked.branch [
+      | else-is_marked-via-then-is_marked+else-not-is_marked w ↦ λ m. sym w.is_marked-then-is_marked.ensures ∙ w.if-not-is_marked.false
+      | else-is_marked-via-else-is_marked w ↦ λ m. absurd (true_false m (sym c.is_marked.ensures ∙ w.if-is_marked.false))
     ])
 
 pub returns : goal.returns

@@ -11,5 +11,5 @@ returns g c spec known l e =
     let s = g.S.CardSource.card c.args.source.now in
     let f = formula_of s.formulas c.args.safety in
     let one = subst (λ (ms : List Bool). Members s.formulas (f ∷ []) ms) (sym c.only-marks.ensures) (one_members spec s known c.args.safety l) in
-    subst (λ (h : Formula). Members s.formulas (h ∷ label_in s c.args.node) c.add-label.new.marks) e
-    (c.add-label.ensures spec known (f ∷ []) one)
+    subst (λ (h : Formula). Members s.formulas (h ∷ label_in s c.args.node) c.add_label.new.marks) e
+    (c.add_label.ensures spec known (f ∷ []) one)

@@ -4,16 +4,16 @@ use Rattle.covered.proofs.Spread.{mark_length}
 use Rattle.steps.proofs.Labels.{none_marked}
 use Rattle.steps.proofs.Sifts.{Sifted, sifted_none, sifted_skip, sifted_more, rest_missing, rests_of, none_left}
 use Rattle.steps.proofs.sets.rest_marks.Goals as goal
-use Rattle.steps.proofs.sets.rest_marks.Goals.{then-is-marked+in-Some, else-is-marked}
+use Rattle.steps.proofs.sets.rest_marks.Goals.{then-is_marked+in-Some, else-is_marked}
 
 pub loop-i-init : goal.loop-i-init
 loop-i-init c = (sifted_none c.args.memo.now c.args.marks.now _ (none_marked 1024), length-replicate {A = Bool} 1024 false)
 
-pub returns-in-default : goal.returns-in-default
-returns-in-default c spec rs R S n t listed members rested =
+pub returns-in_default : goal.returns-in_default
+returns-in_default c spec rs R S n t listed members rested =
     rest_missing spec rs t S listed c.args.marks.now members R c.args.memo.now rested c.loop-i.i
-    (omega (arith, c.min-i-end.ensures)) (sym c.is-marked.ensures ∙ c.if-is-marked.true)
-    (none_left (get_or c.args.memo.now c.loop-i.i None) c.in-default.not-Some)
+    (omega (arith, c.min-i-end.ensures)) (sym c.is_marked.ensures ∙ c.if-is_marked.true)
+    (none_left (get_or c.args.memo.now c.loop-i.i None) c.in_default.not-Some)
 
 pub loop-i-preserved : goal.loop-i-preserved
 loop-i-preserved c =
@@ -21,16 +21,16 @@ loop-i-preserved c =
     let memo = c.args.memo.now in
     let ms = c.args.marks.now in
     let P : List Bool → Type 0 = λ out. Sifted memo ms (i + 1) out × (length out ≡ 1024) in
-    elim c.if-is-marked.branch [
-      | then-is-marked+in-Some w ↦
-          subst P (sym (w.rests-is ∙ w.set-mark.ensures)) (
+    elim c.if-is_marked.branch [
+      | then-is_marked+in-Some w ↦
+          subst P (sym (w.rests-is ∙ w.set_mark.ensures)) (
             sifted_more memo ms i c.loop-i.rests c.loop-i.invariant.0 w.in-Some.rest
-                (sym c.is-marked.ensures ∙ w.if-is-marked.true) w.in-Some.is,
+                (sym c.is_marked.ensures ∙ w.if-is_marked.true) w.in-Some.is,
             mark_length c.loop-i.rests w.in-Some.rest ∙ c.loop-i.invariant.1,
           )
-      | else-is-marked w ↦
+      | else-is_marked w ↦
           subst P (sym w.rests-is) (
-            sifted_skip memo ms i c.loop-i.rests c.loop-i.invariant.0 (sym c.is-marked.ensures ∙ w.if-is-marked.false),
+            sifted_skip memo ms i c.loop-i.rests c.loop-i.invariant.0 (sym c.is_marked.ensures ∙ w.if-is_marked.false),
             c.loop-i.invariant.1,
           )
     ]

@@ -10,5 +10,5 @@ returns-then-i-self c =
 pub returns : goal.returns
 returns c =
     let s = c.args.self.now in
-    ap Some c.read-formula.ensures
+    ap Some c.read_formula.ensures
     ∙ sym (entries_in (formula_at s.bytes.now) 10 0 s.formulas c.args.i _ (omega arith) (omega arith))

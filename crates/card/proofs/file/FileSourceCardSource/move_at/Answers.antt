@@ -11,5 +11,5 @@ returns-then-i-self c =
 pub returns : goal.returns
 returns c =
     let s = c.args.self.now in
-    ap Some c.read-move.ensures
+    ap Some c.read_move.ensures
     ∙ sym (entries_in (move_at s.bytes.now) 10 (moves_from s.formulas s.labels s.nodes) s.moves c.args.i _ (omega arith) (omega arith))

@@ -11,5 +11,5 @@ returns-then-i-self c =
 pub returns : goal.returns
 returns c =
     let s = c.args.self.now in
-    ap Some c.read-node.ensures
+    ap Some c.read_node.ensures
     ∙ sym (entries_in (node_at s.bytes.now) 8 (nodes_from s.formulas s.labels) s.nodes c.args.i _ (omega arith) (omega arith))

@@ -4,7 +4,7 @@ use Rattle.std.proofs.lemmas.List.{length-set, take_more, take_more_set}
 use Rattle.card.proofs.Walk.{entry_some, length_some, length_none}
 use Rattle.formed.proofs.Copies.{taken_all}
 use Rattle.formed.proofs.table.copy.formulas_of.Goals as goal
-use Rattle.formed.proofs.table.copy.formulas_of.Goals.{else-loop-i-test, then-loop-i-test+in-default}
+use Rattle.formed.proofs.table.copy.formulas_of.Goals.{else-loop-i-test, then-loop-i-test+in_default}
 
 pub put-requires : goal.put-requires
 put-requires g c = omega (arith, c.min-count.ensures)
@@ -32,7 +32,7 @@ returns g c =
     let p : i ≡ n =
     elim c.loop-i-test.branch [
       | else-loop-i-test w ↦ omega arith
-      | then-loop-i-test+in-default w ↦ absurd (omega (arith, length_none fs i w.in-default.ensures, c.formula_count.ensures, c.min-count.ensures))
+      | then-loop-i-test+in_default w ↦ absurd (omega (arith, length_none fs i w.in_default.ensures, c.formula_count.ensures, c.min-count.ensures))
     ] in
     ap (λ (k : ℕ). take k c.loop-i.table) (sym p) ∙ c.loop-i.invariant.0
     ∙ taken_all fs 1024 i (omega (arith, c.formula_count.ensures, c.min-count.ensures))

@@ -11,12 +11,12 @@ line t c =
     let m = shown c.if-number-ge10.self in
     let r = shown c.push.new.self in
     let n = c.args.number in
-    let d = c.last-digit.result in
+    let d = c.last_digit.result in
     elim c.if-number-ge10.branch [
       | then-number-ge10 w ↦
-          push_last s m r n d (omega arith) (omega arith) (ap shown w.self-is ∙ w.push-number.ensures.line) c.last-digit.ensures c.push.ensures
+          push_last s m r n d (omega arith) (omega arith) (ap shown w.self-is ∙ w.push_number.ensures.line) c.last_digit.ensures c.push.ensures
       | else-number-ge10 w ↦
-          push_digit s r n d (omega arith) c.last-digit.ensures
+          push_digit s r n d (omega arith) c.last_digit.ensures
           (c.push.ensures ∙ ap (λ l. take 64 (shown l ++ d ∷ [])) w.self-is)
     ]
 

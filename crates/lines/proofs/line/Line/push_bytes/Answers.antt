@@ -11,9 +11,9 @@ returns c =
     let xs = c.args.self.now.bytes in
     let n = c.fitting-count.result in
     let ys = c.args.bytes.now in
-    let zs = c.copy-from-slice.new.self in
-    let copied : length zs ≡ n = ap length c.copy-from-slice.ensures.after ∙ length-take-le n ys (omega arith) in
+    let zs = c.copy_from_slice.new.self in
+    let copied : length zs ≡ n = ap length c.copy_from_slice.ensures.after ∙ length-take-le n ys (omega arith) in
     take-put_mid k (k + n - k) xs zs (k + n) (omega arith) (omega arith)
-    ∙ ap (λ (bs : List ℕ). take k xs ++ bs) c.copy-from-slice.ensures.after
+    ∙ ap (λ (bs : List ℕ). take k xs ++ bs) c.copy_from_slice.ensures.after
     ∙ ap (λ (m : ℕ). take k xs ++ take m ys) c.fitting-count.ensures
     ∙ written 64 k xs ys (omega arith) (omega arith)

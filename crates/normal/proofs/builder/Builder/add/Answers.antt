@@ -11,7 +11,7 @@ returns-in-Some c =
 pub returns-then-self-eq256 : goal.returns-then-self-eq256
 returns-then-self-eq256 c =
     added_full c.args.slots.now c.args.self.now c.requires.sound c.args.entry c.requires.parts
-    (c.in-default.ensures.model (entries_of c.args.self.now) c.requires.sound.indexed) c.if-self-eq256.true
+    (c.in_default.ensures.model (entries_of c.args.self.now) c.requires.sound.indexed) c.if-self-eq256.true
 
 pub returns : goal.returns
 returns c =
@@ -23,5 +23,5 @@ returns c =
     let done = c.insert.ensures.model (entries_of c.args.self.now) c.requires.sound.indexed len (omega (arith, low))
     (omega (arith, low, c.requires.sound.room)) in
     added_new c.args.slots.now c.args.self.now c.requires.sound c.args.entry c.requires.parts
-    (c.in-default.ensures.model (entries_of c.args.self.now) c.requires.sound.indexed) low
+    (c.in_default.ensures.model (entries_of c.args.self.now) c.requires.sound.indexed) low
     c.insert.new.slots c.insert.ensures.len done.1

@@ -16,79 +16,79 @@ use Rattle.parser.proofs.reader.Reader.+arrow_chain_operand_unary.Goals as goal
 
 -- arrow
 
-pub arrow-returns-in-err-part : goal.arrow-returns-in-err-part
-arrow-returns-in-err-part t c =
+pub arrow-returns-in_err-part : goal.arrow-returns-in_err-part
+arrow-returns-in_err-part t c =
     failed 0 _ c.args.text.now c.args.at c.args.self.now c.operand.new.self c.operand.new.slots _
-    c.from-residual.result c.from-residual.ensures.1 (arrow_stop _ _ _ _ _ c.in-err-part.ensures)
+    c.from-residual.result c.from-residual.ensures.1 (arrow_stop _ _ _ _ _ c.in_err-part.ensures)
 
-pub arrow-returns-then-not-is-symbol : goal.arrow-returns-then-not-is-symbol
-arrow-returns-then-not-is-symbol t c =
-    let d = c.in-ok-part.ensures in
-    let e = c.if-not-is-symbol.ensures ∙ ap (λ y. is_symbol y c.look-seen.result.token) c.symbol-of.ensures in
+pub arrow-returns-then-not-is_symbol : goal.arrow-returns-then-not-is_symbol
+arrow-returns-then-not-is_symbol t c =
+    let d = c.in_ok-part.ensures in
+    let e = c.if-not-is_symbol.ensures ∙ ap (λ y. is_symbol y c.look-seen.result.token) c.symbol_of.ensures in
     (arrow_end _ _ _ _ _ _ d.0 _ c.look-seen.ensures.value e, d.1)
 
 pub arrow-returns-then-left-eq0 : goal.arrow-returns-then-left-eq0
 arrow-returns-then-left-eq0 t c =
-    let d = c.in-ok-part.ensures in
-    let e = c.if-not-is-symbol.ensures ∙ ap (λ y. is_symbol y c.look-seen.result.token) c.symbol-of.ensures in
-    arrow_full _ _ _ _ _ _ d.0 _ c.look-seen.ensures.value e c.if-left-eq0.true ∙ ap stop (sym c.too-deep.ensures)
+    let d = c.in_ok-part.ensures in
+    let e = c.if-not-is_symbol.ensures ∙ ap (λ y. is_symbol y c.look-seen.result.token) c.symbol_of.ensures in
+    arrow_full _ _ _ _ _ _ d.0 _ c.look-seen.ensures.value e c.if-left-eq0.true ∙ ap stop (sym c.too_deep.ensures)
 
-pub arrow-returns-in-err-right : goal.arrow-returns-in-err-right
-arrow-returns-in-err-right t c =
-    let d = c.in-ok-part.ensures in
-    let e = c.if-not-is-symbol.ensures ∙ ap (λ y. is_symbol y c.look-seen.result.token) c.symbol-of.ensures in
+pub arrow-returns-in_err-right : goal.arrow-returns-in_err-right
+arrow-returns-in_err-right t c =
+    let d = c.in_ok-part.ensures in
+    let e = c.if-not-is_symbol.ensures ∙ ap (λ y. is_symbol y c.look-seen.result.token) c.symbol_of.ensures in
     failed 0 _ c.args.text.now c.args.at c.args.self.now c.arrow.new.self c.arrow.new.slots _
-    c.from-residual-in-err-right.result c.from-residual-in-err-right.ensures.1
-    (arrow_then _ _ _ _ _ _ d.0 _ c.look-seen.ensures.value e (omega arith) _ c.in-err-right.ensures)
+    c.from-residual-in_err-right.result c.from-residual-in_err-right.ensures.1
+    (arrow_then _ _ _ _ _ _ d.0 _ c.look-seen.ensures.value e (omega arith) _ c.in_err-right.ensures)
 
 pub arrow-returns : goal.arrow-returns
 arrow-returns t c =
-    let d = c.in-ok-part.ensures in
-    let e = c.if-not-is-symbol.ensures ∙ ap (λ y. is_symbol y c.look-seen.result.token) c.symbol-of.ensures in
+    let d = c.in_ok-part.ensures in
+    let e = c.if-not-is_symbol.ensures ∙ ap (λ y. is_symbol y c.look-seen.result.token) c.symbol_of.ensures in
     let v = c.look-seen.ensures in
-    let lt : c.in-ok-part.part.next < c.look-seen.result.next = omega (arith, symbol_reads v _ e, v.after) in
-    let f = c.in-ok-right.ensures in (
+    let lt : c.in_ok-part.part.next < c.look-seen.result.next = omega (arith, symbol_reads v _ e, v.after) in
+    let f = c.in_ok-right.ensures in (
       arrow_then _ _ _ _ _ _ d.0 _ v.value e (omega arith) _ f.0 ∙ binary_good d.1 lt f.1 c.push.ensures,
       binary_went d.1 lt f.1 c.push.ensures,
     )
 
 -- chain
 
-pub chain-returns-in-err-part : goal.chain-returns-in-err-part
-chain-returns-in-err-part t c =
+pub chain-returns-in_err-part : goal.chain-returns-in_err-part
+chain-returns-in_err-part t c =
     failed 0 _ c.args.text.now c.args.at c.args.self.now c.operand.new.self c.operand.new.slots _
-    c.from-residual.result c.from-residual.ensures.1 (chain_then _ _ _ _ _ c.in-err-part.ensures)
+    c.from-residual.result c.from-residual.ensures.1 (chain_then _ _ _ _ _ c.in_err-part.ensures)
 
-pub chain-returns-then-not-is-symbol : goal.chain-returns-then-not-is-symbol
-chain-returns-then-not-is-symbol t c =
-    let d = c.in-ok-part.ensures in
-    let e = c.if-not-is-symbol.ensures ∙ ap (λ y. is_symbol y c.look-seen.result.token) c.symbol-of.ensures in
+pub chain-returns-then-not-is_symbol : goal.chain-returns-then-not-is_symbol
+chain-returns-then-not-is_symbol t c =
+    let d = c.in_ok-part.ensures in
+    let e = c.if-not-is_symbol.ensures ∙ ap (λ y. is_symbol y c.look-seen.result.token) c.symbol_of.ensures in
     let i = c.loop-i.invariant in
     (chain_then _ _ _ _ _ d.0 ∙ i.0 ∙ more_end _ _ _ _ _ _ _ c.look-seen.ensures.value e, went_both d.1 i.1)
 
-pub chain-returns-in-err-right : goal.chain-returns-in-err-right
-chain-returns-in-err-right t c =
-    let d = c.in-ok-part.ensures in
-    let e = c.if-not-is-symbol.ensures ∙ ap (λ y. is_symbol y c.look-seen.result.token) c.symbol-of.ensures in
+pub chain-returns-in_err-right : goal.chain-returns-in_err-right
+chain-returns-in_err-right t c =
+    let d = c.in_ok-part.ensures in
+    let e = c.if-not-is_symbol.ensures ∙ ap (λ y. is_symbol y c.look-seen.result.token) c.symbol_of.ensures in
     let i = c.loop-i.invariant in
     failed 0 _ c.args.text.now c.args.at c.args.self.now c.operand-in-loop-i.new.self
-    c.operand-in-loop-i.new.slots _ c.from-residual-in-err-right.result c.from-residual-in-err-right.ensures.1
+    c.operand-in-loop-i.new.slots _ c.from-residual-in_err-right.result c.from-residual-in_err-right.ensures.1
     (chain_then _ _ _ _ _ d.0 ∙ i.0
-    ∙ more_then _ _ _ _ _ _ _ c.look-seen.ensures.value e (omega (arith, c.loop-i-test.true)) _ c.in-err-right.ensures)
+    ∙ more_then _ _ _ _ _ _ _ c.look-seen.ensures.value e (omega (arith, c.loop-i-test.true)) _ c.in_err-right.ensures)
 
 pub chain-loop-i-preserved : goal.chain-loop-i-preserved
 chain-loop-i-preserved t c =
-    let e = c.if-not-is-symbol.ensures ∙ ap (λ y. is_symbol y c.look-seen.result.token) c.symbol-of.ensures in
+    let e = c.if-not-is_symbol.ensures ∙ ap (λ y. is_symbol y c.look-seen.result.token) c.symbol_of.ensures in
     let v = c.look-seen.ensures in
     let i = c.loop-i.invariant in
     let lt : c.loop-i.part.next < c.look-seen.result.next = omega (arith, symbol_reads v _ e, v.after) in
-    let f = c.in-ok-right.ensures in
+    let f = c.in_ok-right.ensures in
     let text = c.args.text.now in
     let operand = operand_with c.args.left c.args.by text in
     let g = binary_good i.1 lt f.1 c.push-part.ensures in
-    let k : length text - c.loop-i.-i - 1 ≡ length text - (c.loop-i.-i + 1) = omega arith in (
+    let k : length text - c.loop-i._i - 1 ≡ length text - (c.loop-i._i + 1) = omega arith in (
       i.0 ∙ more_then _ _ _ _ _ _ _ v.value e (omega (arith, c.loop-i-test.true)) _ f.0
-          ∙ ap (λ o. and_then o (λ u s'. more text c.args.by operand (length text - c.loop-i.-i - 1) u s')) g
+          ∙ ap (λ o. and_then o (λ u s'. more text c.args.by operand (length text - c.loop-i._i - 1) u s')) g
           ∙ ap (λ n. more text c.args.by operand n (tree_at c.push-part.new.self c.push-part.result.root)
           (state_at c.push-part.new.self c.push-part.result.next)) k,
       binary_went i.1 lt f.1 c.push-part.ensures,
@@ -96,7 +96,7 @@ chain-loop-i-preserved t c =
 
 pub chain-returns : goal.chain-returns
 chain-returns t c =
-    let d = c.in-ok-part.ensures in
+    let d = c.in_ok-part.ensures in
     let i = c.loop-i.invariant in
     (chain_then _ _ _ _ _ d.0 ∙ i.0 ∙ more_none _ _ _ _ _ _ (omega (arith, c.loop-i-test.false)), went_both d.1 i.1)
 
@@ -138,56 +138,56 @@ operand-returns-in-Equivalent t c =
 pub unary-returns-then-left-eq0 : goal.unary-returns-then-left-eq0
 unary-returns-then-left-eq0 t c =
     prefix_full _ _ _ _ c.look-seen.ensures.value _ c.in-Prefix.ensures c.if-left-eq0.true
-    ∙ ap stop (sym c.too-deep.ensures)
+    ∙ ap stop (sym c.too_deep.ensures)
 
-pub unary-returns-in-err-prefixed : goal.unary-returns-in-err-prefixed
-unary-returns-in-err-prefixed t c =
+pub unary-returns-in_err-prefixed : goal.unary-returns-in_err-prefixed
+unary-returns-in_err-prefixed t c =
     failed 0 _ c.args.text.now c.args.at c.args.self.now c.args.self.now c.args.slots.now _
     c.from-residual.result c.from-residual.ensures.1
     (prefix_on _ _ _ _ c.look-seen.ensures.value _ c.in-Prefix.ensures (omega arith) _
-    (sym c.in-err-prefixed.ensures))
+    (sym c.in_err-prefixed.ensures))
 
 pub unary-unary-requires : goal.unary-unary-requires
 unary-unary-requires t c =
     let v = c.look-seen.ensures in
     let lt = prefix_reads v _ c.in-Prefix.ensures in
     let g =
-    prefix_ok c.args.text.now c.look-seen.result.next c.in-Prefix.operator c.in-ok-prefixed.prefixed
-    (sym c.in-ok-prefixed.ensures) in
+    prefix_ok c.args.text.now c.look-seen.result.next c.in-Prefix.operator c.in_ok-prefixed.prefixed
+    (sym c.in_ok-prefixed.ensures) in
     (omega (arith, c.decreases), ready_on c.requires _ (omega (arith, v.after, g.after)) (g.in_text (v.in_text c.requires.in_text)))
 
-pub unary-returns-in-err-part : goal.unary-returns-in-err-part
-unary-returns-in-err-part t c =
+pub unary-returns-in_err-part : goal.unary-returns-in_err-part
+unary-returns-in_err-part t c =
     failed 0 _ c.args.text.now c.args.at c.args.self.now c.unary.new.self c.unary.new.slots _
-    c.from-residual-in-err-part.result c.from-residual-in-err-part.ensures.1
+    c.from-residual-in_err-part.result c.from-residual-in_err-part.ensures.1
     (prefix_then _ _ _ _ c.look-seen.ensures.value _ c.in-Prefix.ensures (omega arith) _
-    (sym c.in-ok-prefixed.ensures) _ c.in-err-part.ensures)
+    (sym c.in_ok-prefixed.ensures) _ c.in_err-part.ensures)
 
 pub unary-push-requires-in-Prefix : goal.unary-push-requires-in-Prefix
 unary-push-requires-in-Prefix t c =
     let v = c.look-seen.ensures in
     let lt = prefix_reads v _ c.in-Prefix.ensures in
     let g =
-    prefix_ok c.args.text.now c.look-seen.result.next c.in-Prefix.operator c.in-ok-prefixed.prefixed
-    (sym c.in-ok-prefixed.ensures) in
-    room_behind c.requires (opened (omega (arith, v.after, g.after)) c.in-ok-part.ensures.1)
+    prefix_ok c.args.text.now c.look-seen.result.next c.in-Prefix.operator c.in_ok-prefixed.prefixed
+    (sym c.in_ok-prefixed.ensures) in
+    room_behind c.requires (opened (omega (arith, v.after, g.after)) c.in_ok-part.ensures.1)
 
 pub unary-returns-then-left-eq0-2 : goal.unary-returns-then-left-eq0-2
 unary-returns-then-left-eq0-2 t c =
     group_full _ _ _ _ c.look-seen.ensures.value c.in-Group.ensures c.if-left-eq0-2.true
-    ∙ ap stop (sym c.too-deep-then-left-eq0-2.ensures)
+    ∙ ap stop (sym c.too_deep-then-left-eq0-2.ensures)
 
-pub unary-returns-in-err-part-2 : goal.unary-returns-in-err-part-2
-unary-returns-in-err-part-2 t c =
+pub unary-returns-in_err-part-2 : goal.unary-returns-in_err-part-2
+unary-returns-in_err-part-2 t c =
     failed 0 _ c.args.text.now c.args.at c.args.self.now c.arrow.new.self c.arrow.new.slots _
-    c.from-residual-in-err-part-2.result c.from-residual-in-err-part-2.ensures.1
-    (group_then _ _ _ _ c.look-seen.ensures.value c.in-Group.ensures (omega arith) _ c.in-err-part-2.ensures)
+    c.from-residual-in_err-part-2.result c.from-residual-in_err-part-2.ensures.1
+    (group_then _ _ _ _ c.look-seen.ensures.value c.in-Group.ensures (omega arith) _ c.in_err-part-2.ensures)
 
-pub unary-returns-then-not-is-symbol : goal.unary-returns-then-not-is-symbol
-unary-returns-then-not-is-symbol t c =
+pub unary-returns-then-not-is_symbol : goal.unary-returns-then-not-is_symbol
+unary-returns-then-not-is_symbol t c =
     group_closed _ _ _ _ c.look-seen.ensures.value c.in-Group.ensures (omega arith) _ _
-    c.in-ok-part-2.ensures.0 _
-    c.look-close.ensures.value _ c.if-not-is-symbol.ensures ∙ ap stop (sym c.misplaced-then-not-is-symbol.ensures)
+    c.in_ok-part-2.ensures.0 _
+    c.look-close.ensures.value _ c.if-not-is_symbol.ensures ∙ ap stop (sym c.misplaced-then-not-is_symbol.ensures)
 
 pub unary-returns-in-Wrong : goal.unary-returns-in-Wrong
 unary-returns-in-Wrong t c =
@@ -209,26 +209,26 @@ unary-returns-in-Variable t c =
     c.variable.result in
     subst P (sym (unary_is _ _ _ _ c.look-seen.ensures.value head.Variable c.in-Variable.ensures)) c.variable.ensures
 
-pub unary-returns-in-ok-part : goal.unary-returns-in-ok-part
-unary-returns-in-ok-part t c =
+pub unary-returns-in_ok-part : goal.unary-returns-in_ok-part
+unary-returns-in_ok-part t c =
     let v = c.look-seen.ensures in
     let e = c.in-Prefix.ensures in
     let lt = prefix_reads v _ e in
-    let h = sym c.in-ok-prefixed.ensures in
-    let g = prefix_ok c.args.text.now c.look-seen.result.next c.in-Prefix.operator c.in-ok-prefixed.prefixed h in
-    let on : c.args.at < c.in-ok-prefixed.prefixed.next = omega (arith, v.after, g.after, lt) in
-    let d = c.in-ok-part.ensures in (
+    let h = sym c.in_ok-prefixed.ensures in
+    let g = prefix_ok c.args.text.now c.look-seen.result.next c.in-Prefix.operator c.in_ok-prefixed.prefixed h in
+    let on : c.args.at < c.in_ok-prefixed.prefixed.next = omega (arith, v.after, g.after, lt) in
+    let d = c.in_ok-part.ensures in (
       prefix_then _ _ _ _ v.value _ e (omega arith) _ h _ d.0 ∙ unary_good on d.1 c.push-in-Prefix.ensures,
       unary_went on d.1 c.push-in-Prefix.ensures,
     )
 
-pub unary-returns-else-not-is-symbol : goal.unary-returns-else-not-is-symbol
-unary-returns-else-not-is-symbol t c =
+pub unary-returns-else-not-is_symbol : goal.unary-returns-else-not-is_symbol
+unary-returns-else-not-is_symbol t c =
     let v = c.look-seen.ensures in
-    let d = c.in-ok-part-2.ensures in
+    let d = c.in_ok-part-2.ensures in
     let y = c.look-close.ensures in
     let e = c.in-Group.ensures in
-    let f = c.if-not-is-symbol.ensures in (
+    let f = c.if-not-is_symbol.ensures in (
       group_closed _ _ _ _ v.value e (omega arith) _ _ d.0 _ y.value _ f,
       went_spare 0 (omega arith) (went_later _ 0 refl (omega (arith, y.after, symbol_reads y symbol.Close f)) (y.in_text d.1.in_text)
           (went_earlier c.args.at 0 (omega (arith, v.after, group_reads v e)) d.1)),

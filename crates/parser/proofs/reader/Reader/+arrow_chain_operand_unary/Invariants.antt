@@ -20,6 +20,6 @@ abbrev pub invariant-chain-loop-i : goal.invariant-chain-loop-i
 invariant-chain-loop-i l =
     (more l.text l.by (operand_with l.left l.by l.text) (length l.text) (tree_at l.initial.self l.initial.part.root)
     (state_at l.initial.self l.initial.part.next)
-    ≡ more l.text l.by (operand_with l.left l.by l.text) (length l.text - l.-i) (tree_at l.self l.part.root)
+    ≡ more l.text l.by (operand_with l.left l.by l.text) (length l.text - l._i) (tree_at l.self l.part.root)
     (state_at l.self l.part.next))
     × Went 0 l.text l.initial.part.next l.initial.self l.self l.slots l.part

@@ -9,30 +9,30 @@ pub arrow-requires : goal.arrow-requires
 arrow-requires c =
     let b = blanks_on c.args.text.now c.args.at in
     let P : ℕ → Type 0 = λ n. Ready c.args.text.now c.args.slots.now c.args.self.now n in
-    subst P (sym c.skip-lines-begin.ensures) (ready_on c.requires _ b.after (b.in_text c.requires.in_text))
+    subst P (sym c.skip_lines-begin.ensures) (ready_on c.requires _ b.after (b.in_text c.requires.in_text))
 
-pub returns-in-err-part : goal.returns-in-err-part
-returns-in-err-part c =
+pub returns-in_err-part : goal.returns-in_err-part
+returns-in_err-part c =
     failed 1 _ c.args.text.now c.args.at c.args.self.now c.arrow.new.self c.arrow.new.slots _
     c.from-residual.result
-    c.from-residual.ensures.1 (formula_then _ _ _ c.skip-lines-begin.ensures _ c.in-err-part.ensures)
+    c.from-residual.ensures.1 (formula_then _ _ _ c.skip_lines-begin.ensures _ c.in_err-part.ensures)
 
-pub returns-in-err-next : goal.returns-in-err-next
-returns-in-err-next c =
+pub returns-in_err-next : goal.returns-in_err-next
+returns-in_err-next c =
     failed 1 _ c.args.text.now c.args.at c.args.self.now c.arrow.new.self c.arrow.new.slots _
-    c.from-residual-in-err-next.result
-    c.from-residual-in-err-next.ensures.1
-    (formula_ended _ _ _ c.skip-lines-begin.ensures _ _ c.in-ok-part.ensures.0 _ c.in-err-next.ensures)
+    c.from-residual-in_err-next.result
+    c.from-residual-in_err-next.ensures.1
+    (formula_ended _ _ _ c.skip_lines-begin.ensures _ _ c.in_ok-part.ensures.0 _ c.in_err-next.ensures)
 
 pub returns : goal.returns
 returns c =
-    let d = c.in-ok-part.ensures in
-    let e = c.in-ok-next.ensures in
+    let d = c.in_ok-part.ensures in
+    let e = c.in_ok-next.ensures in
     let text = c.args.text.now in
     let b = blanks_on text c.args.at in
-    let lt = line_reads text c.in-ok-part.part.next c.in-ok-next.next e in
-    let on = line_ok text c.in-ok-part.part.next c.in-ok-next.next e in (
-      formula_ended _ _ _ c.skip-lines-begin.ensures _ _ d.0 _ e,
+    let lt = line_reads text c.in_ok-part.part.next c.in_ok-next.next e in
+    let on = line_ok text c.in_ok-part.part.next c.in_ok-next.next e in (
+      formula_ended _ _ _ c.skip_lines-begin.ensures _ _ d.0 _ e,
       went_later _ 1 refl (omega (arith, lt)) (on.in_text d.1.in_text)
-          (went_earlier c.args.at 0 (omega (arith, b.after, c.skip-lines-begin.ensures)) d.1),
+          (went_earlier c.args.at 0 (omega (arith, b.after, c.skip_lines-begin.ensures)) d.1),
     )

@@ -7,5 +7,5 @@ abbrev pub invariant-loop-i : goal.invariant-loop-i
 invariant-loop-i l =
     (lines_in l.text (length l.text) (tree_at l.initial.self l.initial.part.root)
     (state_at l.initial.self l.initial.part.next)
-    ≡ lines_in l.text (length l.text - l.-i) (tree_at l.self l.part.root) (state_at l.self l.part.next))
+    ≡ lines_in l.text (length l.text - l._i) (tree_at l.self l.part.root) (state_at l.self l.part.next))
     × Went 0 l.text l.initial.part.next l.initial.self l.self l.slots l.part

@@ -18,64 +18,64 @@ behind_header text v w slots s at n r e =
     let on = header_ok text v w at n e in
     ready_on r n on.after (on.in_text r.in_text)
 
-pub returns-in-err-first : goal.returns-in-err-first
-returns-in-err-first c =
+pub returns-in_err-first : goal.returns-in_err-first
+returns-in_err-first c =
     refuses _ c.args.self.now _ c.from-residual.result c.from-residual.ensures.1
-    (first_read _ _ c.in-err-first.ensures)
+    (first_read _ _ c.in_err-first.ensures)
 
 pub formula-requires : goal.formula-requires
 formula-requires c =
-    behind_header c.args.text.now _ _ c.args.slots.now c.args.self.now 0 _ c.requires.0 c.in-ok-first.ensures
+    behind_header c.args.text.now _ _ c.args.slots.now c.args.self.now 0 _ c.requires.0 c.in_ok-first.ensures
 
-pub returns-in-err-initial : goal.returns-in-err-initial
-returns-in-err-initial c =
-    refuses _ c.formula.new.self _ c.from-residual-in-err-initial.result c.from-residual-in-err-initial.ensures.1
-    (formula_read _ _ c.in-ok-first.ensures _ (begins c.args.self.now _ c.requires.1) _
-    c.in-err-initial.ensures)
+pub returns-in_err-initial : goal.returns-in_err-initial
+returns-in_err-initial c =
+    refuses _ c.formula.new.self _ c.from-residual-in_err-initial.result c.from-residual-in_err-initial.ensures.1
+    (formula_read _ _ c.in_ok-first.ensures _ (begins c.args.self.now _ c.requires.1) _
+    c.in_err-initial.ensures)
 
-pub returns-in-err-second : goal.returns-in-err-second
-returns-in-err-second c =
-    refuses _ c.formula.new.self _ c.from-residual-in-err-second.result c.from-residual-in-err-second.ensures.1
-    (second_read _ _ c.in-ok-first.ensures _ (begins c.args.self.now _ c.requires.1) _ _
-    c.in-ok-initial.ensures.0 _ c.in-err-second.ensures)
+pub returns-in_err-second : goal.returns-in_err-second
+returns-in_err-second c =
+    refuses _ c.formula.new.self _ c.from-residual-in_err-second.result c.from-residual-in_err-second.ensures.1
+    (second_read _ _ c.in_ok-first.ensures _ (begins c.args.self.now _ c.requires.1) _ _
+    c.in_ok-initial.ensures.0 _ c.in_err-second.ensures)
 
 pub safety-requires : goal.safety-requires
 safety-requires c =
     let r =
     behind_header c.args.text.now _ _ c.args.slots.now c.args.self.now 0 _ c.requires.0
-    c.in-ok-first.ensures in
+    c.in_ok-first.ensures in
     behind_header c.args.text.now _ _ c.formula.new.slots c.formula.new.self _ _
-    (ready_behind r c.in-ok-initial.ensures.1) c.in-ok-second.ensures
+    (ready_behind r c.in_ok-initial.ensures.1) c.in_ok-second.ensures
 
-pub returns-in-err-safety : goal.returns-in-err-safety
-returns-in-err-safety c =
-    refuses _ c.safety.new.self _ c.from-residual-in-err-safety.result c.from-residual-in-err-safety.ensures.1
-    (safety_read _ _ c.in-ok-first.ensures _ (begins c.args.self.now _ c.requires.1) _ _
-    c.in-ok-initial.ensures.0
-    _ c.in-ok-second.ensures _ c.in-err-safety.ensures)
+pub returns-in_err-safety : goal.returns-in_err-safety
+returns-in_err-safety c =
+    refuses _ c.safety.new.self _ c.from-residual-in_err-safety.result c.from-residual-in_err-safety.ensures.1
+    (safety_read _ _ c.in_ok-first.ensures _ (begins c.args.self.now _ c.requires.1) _ _
+    c.in_ok-initial.ensures.0
+    _ c.in_ok-second.ensures _ c.in_err-safety.ensures)
 
-pub returns-in-err-third-section : goal.returns-in-err-third-section
-returns-in-err-third-section c =
-    refuses _ c.safety.new.self _ c.from-residual-in-err-third-section.result
-    c.from-residual-in-err-third-section.ensures.1
-    (third_read _ _ c.in-ok-first.ensures _ (begins c.args.self.now _ c.requires.1) _ _
-    c.in-ok-initial.ensures.0
-    _ c.in-ok-second.ensures _ _ c.in-ok-safety.ensures.0 _ c.skip-lines-third.ensures _
-    c.in-err-third-section.ensures)
+pub returns-in_err-third_section : goal.returns-in_err-third_section
+returns-in_err-third_section c =
+    refuses _ c.safety.new.self _ c.from-residual-in_err-third_section.result
+    c.from-residual-in_err-third_section.ensures.1
+    (third_read _ _ c.in_ok-first.ensures _ (begins c.args.self.now _ c.requires.1) _ _
+    c.in_ok-initial.ensures.0
+    _ c.in_ok-second.ensures _ _ c.in_ok-safety.ensures.0 _ c.skip_lines-third.ensures _
+    c.in_err-third_section.ensures)
 
 pub returns : goal.returns
 returns c =
-    let v = c.in-ok-initial.ensures in
-    let w = c.in-ok-safety.ensures in
+    let v = c.in_ok-initial.ensures in
+    let w = c.in_ok-safety.ensures in
     let r =
     behind_header c.args.text.now _ _ c.args.slots.now c.args.self.now 0 _ c.requires.0
-    c.in-ok-first.ensures in
+    c.in_ok-first.ensures in
     let q =
     behind_header c.args.text.now _ _ c.formula.new.slots c.formula.new.self _ _ (ready_behind r v.1)
-    c.in-ok-second.ensures in
+    c.in_ok-second.ensures in
     let end = ready_behind q w.1 in (
-      third_read _ _ c.in-ok-first.ensures _ (begins c.args.self.now _ c.requires.1) _ _ v.0
-          _ c.in-ok-second.ensures _ _ w.0 _ c.skip-lines-third.ensures _ c.in-ok-third-section.ensures
+      third_read _ _ c.in_ok-first.ensures _ (begins c.args.self.now _ c.requires.1) _ _ v.0
+          _ c.in_ok-second.ensures _ _ w.0 _ c.skip_lines-third.ensures _ c.in_ok-third_section.ensures
           ∙ formed_later _ _ _ _ (w.1.kept _ v.1.root),
       record {
         few = omega (arith, end.few, end.in_text, end.short);

@@ -28,30 +28,30 @@ returns-in-Some c =
       known = c.requires;
     }
 
-pub returns-then-is-full : goal.returns-then-is-full
-returns-then-is-full c =
+pub returns-then-is_full : goal.returns-then-is_full
+returns-then-is_full c =
     let l =
     not_listed c.args.name (names_of c.args.self.now)
-    (c.in-default.ensures.model (names_of c.args.self.now) c.requires.indexed) in
+    (c.in_default.ensures.model (names_of c.args.self.now) c.requires.indexed) in
     let u =
-    used_is c.args.self.now c.args.name _ _ c.requires.numbered l c.is-environment-environment.ensures
+    used_is c.args.self.now c.args.name _ _ c.requires.numbered l c.is_environment-environment.ensures
     c.used-rank.ensures in
-    let h = ltb-false _ _ (not-true _ (sym c.if-is-full.ensures)) in
+    let h = ltb-false _ _ (not-true _ (sym c.if-is_full.ensures)) in
     omega arith
 
 pub returns : goal.returns
 returns c =
     let names = names_of c.args.self.now in
-    let l = not_listed c.args.name names (c.in-default.ensures.model names c.requires.indexed) in
-    let b = c.is-environment-environment.ensures in
+    let l = not_listed c.args.name names (c.in_default.ensures.model names c.requires.indexed) in
+    let b = c.is_environment-environment.ensures in
     let u = used_is c.args.self.now c.args.name _ _ c.requires.numbered l b c.used-rank.ensures in
-    let h = ltb-true _ _ (not-false _ (sym c.if-is-full.ensures)) in
+    let h = ltb-true _ _ (not-false _ (sym c.if-is_full.ensures)) in
     let f : rank c.args.name names < 16 = omega arith in
     let A : Bool → Type 0 =
-    λ e. Appended c.args.self.now c.args.name e c.variable-of-variable.result c.append.new.self in
+    λ e. Appended c.args.self.now c.args.name e c.variable_of-variable.result c.append.new.self in
     let a = subst A b c.append.ensures in
     let v =
-    c.variable-of-variable.ensures ∙ ap (λ e. cond e 0 16 + c.used-rank.result) b
+    c.variable_of-variable.ensures ∙ ap (λ e. cond e 0 16 + c.used-rank.result) b
     ∙ ap (λ m. cond (environmental c.args.name) 0 16 + m) u in
     let more = names_more c.args.self.now c.append.new.self c.args.name _ a in
     let len = length-take c.args.self.now.count c.args.self.now.items in
