@@ -32,7 +32,7 @@ CHOSEN = {
     "Wrong-cards": "WrongCardsAsListed",
     "Unusual-cards": "UnusualCardsAsListed",
 }
-LEMMAS = """arrow-of at-node at-root entry-at formula-from from-nodes kind-number kind-of label-at label-in level-at literal-formed move-formed moves-in
+LEMMAS = """arrow-of at-node at-root entry-at formula-from from-nodes kind-number kind-of label-at level-at literal-formed move-formed
 node-constant nodes-from pair-formed part-formed range-step ranges-marks safety-form same-entry same-name sign-by third-form third-from tree-at true-from
 under-connective under-prefix word-at word-name bit-and bit-or bit-xor third-begins
 constant-at""".split()

@@ -38,7 +38,7 @@ pub(crate) fn kind_right(kind: u16) -> bool
 
 // The first count that is outside its limits, or else the kind, by the number of its field in a file's trailer.
 pub fn wrong_count<S: CardSource>(source: &S) -> Option<usize>
-    ensures { result ≡ wrong_count (card source.now) }
+    ensures { result ≡ wrong_count (S.card source.now) }
 {
     if !formulas_right(source.formula_count()) {
         return Some(1);

@@ -14,7 +14,7 @@ use faults::card::CardFault;
 
 // The length of the file that the answered counts give, however large they are.
 fn file_length<S: CardSource>(source: &S) -> u128
-    ensures { result ≡ byte_count (card source.now) }
+    ensures { result ≡ byte_count (S.card source.now) }
 {
     10 * source.formula_count() as u128
         + 2 * source.label_count() as u128
@@ -64,8 +64,8 @@ fn trailer_to_bytes(kind: u16, formulas: u16, labels: u16, nodes: u16, moves: u1
 }
 
 fn write_formulas<S: CardSource>(source: &S, output: &mut [u8])
-    requires { 10 * length (card source.now).formulas ≤ length output.old }
-    ensures { output.new ≡ put_at output.old 0 (flat_map formula_bytes (card source.now).formulas) }
+    requires { 10 * length (S.card source.now).formulas ≤ length output.old }
+    ensures { output.new ≡ put_at output.old 0 (flat_map formula_bytes (S.card source.now).formulas) }
 {
     for i in 0..source.formula_count() {
         let Some(formula) = source.formula_at(i) else {
@@ -76,8 +76,8 @@ fn write_formulas<S: CardSource>(source: &S, output: &mut [u8])
 }
 
 fn write_labels<S: CardSource>(source: &S, output: &mut [u8], at: usize)
-    requires { at + 2 * length (card source.now).labels ≤ length output.old }
-    ensures { output.new ≡ put_at output.old at (flat_map word_bytes (card source.now).labels) }
+    requires { at + 2 * length (S.card source.now).labels ≤ length output.old }
+    ensures { output.new ≡ put_at output.old at (flat_map word_bytes (S.card source.now).labels) }
 {
     for i in 0..source.label_count() {
         let Some(label) = source.label_at(i) else {
@@ -88,8 +88,8 @@ fn write_labels<S: CardSource>(source: &S, output: &mut [u8], at: usize)
 }
 
 fn write_nodes<S: CardSource>(source: &S, output: &mut [u8], at: usize)
-    requires { at + 8 * length (card source.now).nodes ≤ length output.old }
-    ensures { output.new ≡ put_at output.old at (flat_map node_bytes (card source.now).nodes) }
+    requires { at + 8 * length (S.card source.now).nodes ≤ length output.old }
+    ensures { output.new ≡ put_at output.old at (flat_map node_bytes (S.card source.now).nodes) }
 {
     for i in 0..source.node_count() {
         let Some(node) = source.node_at(i) else {
@@ -100,8 +100,8 @@ fn write_nodes<S: CardSource>(source: &S, output: &mut [u8], at: usize)
 }
 
 fn write_moves<S: CardSource>(source: &S, output: &mut [u8], at: usize)
-    requires { at + 10 * length (card source.now).moves ≤ length output.old }
-    ensures { output.new ≡ put_at output.old at (flat_map move_bytes (card source.now).moves) }
+    requires { at + 10 * length (S.card source.now).moves ≤ length output.old }
+    ensures { output.new ≡ put_at output.old at (flat_map move_bytes (S.card source.now).moves) }
 {
     for i in 0..source.move_count() {
         let Some(step) = source.move_at(i) else {
@@ -113,9 +113,9 @@ fn write_moves<S: CardSource>(source: &S, output: &mut [u8], at: usize)
 
 // The whole file of a card within its limits, into an output that has room for it: the answer is its length.
 fn write_card<S: CardSource>(source: &S, output: &mut [u8]) -> usize
-    requires { (Bounded (card source.now)) × (byte_count (card source.now) ≤ length output.old) }
-    ensures size { result ≡ byte_count (card source.now) }
-    ensures bytes { output.new ≡ output_after (card source.now) output.old }
+    requires { (Bounded (S.card source.now)) × (byte_count (S.card source.now) ≤ length output.old) }
+    ensures size { result ≡ byte_count (S.card source.now) }
+    ensures bytes { output.new ≡ output_after (S.card source.now) output.old }
 {
     let formulas = source.formula_count();
     let labels = source.label_count();
@@ -143,9 +143,9 @@ fn write_card<S: CardSource>(source: &S, output: &mut [u8]) -> usize
 // Writes the card of any source as a card file; the answer is the file's length. An output that is too short is refused first, then a count or
 // a kind outside its limits; entries are copied as they are. A refusal leaves the output as it was, and so does success the bytes behind the file.
 pub fn write<S: CardSource>(source: &S, output: &mut [u8]) -> Result<usize, CardFault>
-    ensures value { result ≡ written (card source.now) (length output.old) }
-    ensures bytes { output.new ≡ (if is_ok result then output_after (card source.now) output.old else output.old) }
-    ensures opens { IfOk result (λ n. read_file (take n output.new) ≡ Ok (card source.now)) }
+    ensures value { result ≡ written (S.card source.now) (length output.old) }
+    ensures bytes { output.new ≡ (if is_ok result then output_after (S.card source.now) output.old else output.old) }
+    ensures opens { IfOk result (λ n. read_file (take n output.new) ≡ Ok (S.card source.now)) }
 {
     if file_length(source) > output.len() as u128 {
         return Err(CardFault::Short(Buffer::Output));

@@ -12,7 +12,7 @@ use records::{MoveRecord, NodeRecord};
 
 /// A move of the card; where there is none, one that fixes nothing and leads to the end.
 fn move_or_none<S: CardSource>(source: &S, i: usize) -> MoveRecord
-    ensures { move_of result ≡ move_at (model (card source.now)) i }
+    ensures { move_of result ≡ move_at (model (S.card source.now)) i }
 {
     let Some(x) = source.move_at(i) else {
         return MoveRecord {
@@ -28,7 +28,7 @@ fn move_or_none<S: CardSource>(source: &S, i: usize) -> MoveRecord
 
 /// Does each valuation of one side's variables agree with exactly one of the node's moves?
 fn covers_once<S: CardSource>(source: &S, side: Side, variables: usize, node: NodeRecord) -> bool
-    ensures { DecidesOnce side (card source.now) variables node result }
+    ensures { DecidesOnce side (S.card source.now) variables node result }
 {
     let high = high_variables(variables);
     let mut words = no_marks();
@@ -50,7 +50,7 @@ fn same_input(x: MoveRecord, y: MoveRecord) -> bool
 
 /// Have all moves of the node the same input mask and values?
 fn inputs_alike<S: CardSource>(source: &S, node: NodeRecord) -> bool
-    ensures { result ≡ alike (card source.now) node }
+    ensures { result ≡ alike (S.card source.now) node }
 {
     let first = move_or_none(source, node.first_move as usize);
     for k in 0..node.move_count as usize {
@@ -77,7 +77,7 @@ pub fn covering_kept<S: CardSource>(
     system: usize,
     node: NodeRecord,
 ) -> bool
-    ensures { DecidesCovering (card source.now) environment system node result }
+    ensures { DecidesCovering (S.card source.now) environment system node result }
 {
     if is_open(source.kind()) {
         covers_once(source, Side::Environment, environment, node)

@@ -49,7 +49,7 @@ fn above(depth: u16) -> u16
 
 /// The largest depth of the targets of a node's moves.
 fn deepest_target<S: CardSource>(source: &S, node: NodeRecord, depths: &[u16; 1024]) -> u16
-    ensures { result ≡ deepest_from (model (card source.now)) (held_depth depths.now) node.move_count node.first_move }
+    ensures { result ≡ deepest_from (model (S.card source.now)) (held_depth depths.now) node.move_count node.first_move }
 {
     let first = node.first_move as usize;
     let count = node.move_count as usize;
@@ -65,7 +65,7 @@ fn deepest_target<S: CardSource>(source: &S, node: NodeRecord, depths: &[u16; 10
 
 /// The depth of node 0.
 pub fn depth<S: CardSource>(source: &S) -> usize
-    ensures { Descending (card source.now) → result ≡ depth_at (model (card source.now)) 0 }
+    ensures { Descending (S.card source.now) → result ≡ depth_at (model (S.card source.now)) 0 }
 {
     let mut depths = [0; 1024];
     for n in (0..source.node_count().min(NODES)).rev() {

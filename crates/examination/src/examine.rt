@@ -41,7 +41,7 @@ pub fn examine<S: CardSource>(
     formulas: &mut [Slot<Formula>],
     records: &mut [Slot<FormulaKey>],
 ) -> Result<Examined, MarkFault>
-    ensures { examined_as result ≡ examines (length names.old) (length formulas.old) (length records.old) text.now (card source.now) }
+    ensures { examined_as result ≡ examines (length names.old) (length formulas.old) (length records.old) text.now (S.card source.now) }
 {
     enough_slots(names.len(), formulas.len(), records.len())?;
     let specification = read(text, names, formulas)?;

@@ -21,7 +21,7 @@ fn refusal(wrong: Option<usize>) -> Result<(), CardFault>
 
 // Refuses a card with a count or a kind outside its limits.
 pub fn counts_right<S: CardSource>(source: &S) -> Result<(), CardFault>
-    ensures { (spec : Spec) → Judges spec (model (card source.now)) count_conditions result }
+    ensures { (spec : Spec) → Judges spec (model (S.card source.now)) count_conditions result }
 {
     refusal(wrong_count(source))
 }

@@ -27,7 +27,7 @@ fn formulas_formed<S: CardSource>(
     environment: usize,
     system: usize,
 ) -> Result<(), CardFault>
-    ensures { (spec : Spec) → spec.environment ≡ environment → spec.system ≡ system → Judges spec (model (card source.now)) (map formula_form (span (length (model (card source.now)).formulas) 0)) result }
+    ensures { (spec : Spec) → spec.environment ≡ environment → spec.system ≡ system → Judges spec (model (S.card source.now)) (map formula_form (span (length (model (S.card source.now)).formulas) 0)) result }
 {
     for i in 0..source.formula_count() {
         let Some(formula) = source.formula_at(i) else {
@@ -41,7 +41,7 @@ fn formulas_formed<S: CardSource>(
 }
 
 fn labels_formed<S: CardSource>(source: &S) -> Result<(), CardFault>
-    ensures { (spec : Spec) → Judges spec (model (card source.now)) (map label_form (span (length (model (card source.now)).labels) 0)) result }
+    ensures { (spec : Spec) → Judges spec (model (S.card source.now)) (map label_form (span (length (model (S.card source.now)).labels) 0)) result }
 {
     let formulas = source.formula_count();
     for i in 0..source.label_count() {
@@ -56,7 +56,7 @@ fn labels_formed<S: CardSource>(source: &S) -> Result<(), CardFault>
 }
 
 fn nodes_formed<S: CardSource>(source: &S) -> Result<(), CardFault>
-    ensures { (spec : Spec) → Judges spec (model (card source.now)) (map node_form (span (length (model (card source.now)).nodes) 0)) result }
+    ensures { (spec : Spec) → Judges spec (model (S.card source.now)) (map node_form (span (length (model (S.card source.now)).nodes) 0)) result }
 {
     let labels = source.label_count();
     let moves = source.move_count();
@@ -76,7 +76,7 @@ fn moves_formed<S: CardSource>(
     environment: usize,
     system: usize,
 ) -> Result<(), CardFault>
-    ensures { (spec : Spec) → spec.environment ≡ environment → spec.system ≡ system → Judges spec (model (card source.now)) (map move_form (span (length (model (card source.now)).moves) 0)) result }
+    ensures { (spec : Spec) → spec.environment ≡ environment → spec.system ≡ system → Judges spec (model (S.card source.now)) (map move_form (span (length (model (S.card source.now)).moves) 0)) result }
 {
     for i in 0..source.move_count() {
         let Some(step) = source.move_at(i) else {
@@ -95,7 +95,7 @@ pub fn entries_formed<S: CardSource>(
     environment: usize,
     system: usize,
 ) -> Result<(), CardFault>
-    ensures { (spec : Spec) → spec.environment ≡ environment → spec.system ≡ system → Judges spec (model (card source.now)) (form_conditions (model (card source.now))) result }
+    ensures { (spec : Spec) → spec.environment ≡ environment → spec.system ≡ system → Judges spec (model (S.card source.now)) (form_conditions (model (S.card source.now))) result }
 {
     formulas_formed(source, environment, system)?;
     labels_formed(source)?;

@@ -51,7 +51,7 @@ pub fn mark_card<S: CardSource>(
     source: &S,
     records: &mut [Slot<FormulaKey>],
 ) -> Outcome
-    ensures { result ≡ marks_card (length records.old) (game_of (view specification.now)) (card source.now) }
+    ensures { result ≡ marks_card (length records.old) (game_of (view specification.now)) (S.card source.now) }
 {
     match check(specification, source, records) {
         Ok(marked) => accepted(marked, source.node_count(), source.move_count()),

@@ -38,7 +38,7 @@ fn judge_root<S: CardSource>(
     records: &[FormulaRecord],
     initial: u16,
 ) -> Result<(), CardFault>
-    ensures { JudgesRoot (card source.now) records.now initial result }
+    ensures { JudgesRoot (S.card source.now) records.now initial result }
 {
     if !root_kept(source, records, initial) {
         return Err(root_wrong());
@@ -53,8 +53,8 @@ pub fn check<S: CardSource>(
     source: &S,
     slots: &mut [Slot<FormulaKey>],
 ) -> Result<Marked, CardFault>
-    ensures value { checked_as result ≡ checks (length slots.old) (game_of (view specification.now)) (model (card source.now)) }
-    ensures meaning { 2048 ≤ length slots.old → Means (game_of (view specification.now)) (model (card source.now)) (checked_as result) }
+    ensures value { checked_as result ≡ checks (length slots.old) (game_of (view specification.now)) (model (S.card source.now)) }
+    ensures meaning { 2048 ≤ length slots.old → Means (game_of (view specification.now)) (model (S.card source.now)) (checked_as result) }
 {
     enough_slots(slots.len())?;
     let listing = list_formulas(specification, source, slots)?;

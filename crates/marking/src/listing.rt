@@ -32,8 +32,8 @@ pub(crate) fn list_formulas<S: CardSource>(
     source: &S,
     slots: &mut [Slot<FormulaKey>],
 ) -> Result<Listing, CardFault>
-    ensures judged { 2048 ≤ length slots.old → Judges (game_of (view specification.now)) (model (card source.now)) (before_root (model (card source.now))) result }
-    ensures listed { 2048 ≤ length slots.old → Lists (game_of (view specification.now)) (card source.now) slots.new result }
+    ensures judged { 2048 ≤ length slots.old → Judges (game_of (view specification.now)) (model (S.card source.now)) (before_root (model (S.card source.now))) result }
+    ensures listed { 2048 ≤ length slots.old → Lists (game_of (view specification.now)) (S.card source.now) slots.new result }
 {
     counts_right(source)?;
     entries_formed(

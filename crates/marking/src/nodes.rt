@@ -17,7 +17,7 @@ use steps::sets::{obligation_marks, rest_marks};
 
 /// Judges the label entries of a node.
 fn judge_labels<S: CardSource>(source: &S, kind: Kind, node: NodeRecord) -> Result<(), CardFault>
-    ensures { JudgesLabels (card source.now) kind node result }
+    ensures { JudgesLabels (S.card source.now) kind node result }
 {
     let first = node.first_label as usize;
     for k in 0..node.label_count as usize {
@@ -36,7 +36,7 @@ fn judge_targets<S: CardSource>(
     n: usize,
     node: NodeRecord,
 ) -> Result<(), CardFault>
-    ensures { JudgesTargets (card source.now) kind nodes n node result }
+    ensures { JudgesTargets (S.card source.now) kind nodes n node result }
 {
     let first = node.first_move as usize;
     for k in 0..node.move_count as usize {
@@ -57,7 +57,7 @@ fn judge_move<S: CardSource>(
     marks: &[bool; 1024],
     number: usize,
 ) -> Result<(), CardFault>
-    ensures { JudgesMove (card source.now) kind records.now slots.now marks.now number result }
+    ensures { JudgesMove (S.card source.now) kind records.now slots.now marks.now number result }
 {
     let taken = move_of(source, number);
     let memo = rests_by(kind, records, slots, taken);
@@ -79,7 +79,7 @@ fn judge_moves<S: CardSource>(
     marks: &[bool; 1024],
     node: NodeRecord,
 ) -> Result<(), CardFault>
-    ensures { JudgesMoves (card source.now) kind records.now slots.now marks.now node result }
+    ensures { JudgesMoves (S.card source.now) kind records.now slots.now marks.now node result }
 {
     let first = node.first_move as usize;
     for k in 0..node.move_count as usize {
@@ -95,7 +95,7 @@ fn judge_covering<S: CardSource>(
     node: NodeRecord,
     n: usize,
 ) -> Result<(), CardFault>
-    ensures { JudgesCovering (card source.now) terms node n result }
+    ensures { JudgesCovering (S.card source.now) terms node n result }
 {
     if !covering_kept(source, terms.environment, terms.system, node) {
         return Err(covering_wrong(n));
@@ -111,7 +111,7 @@ fn judge_node<S: CardSource>(
     slots: &[Slot<FormulaKey>],
     n: usize,
 ) -> Result<(), CardFault>
-    ensures { JudgesNode (card source.now) terms records.now slots.now n result }
+    ensures { JudgesNode (S.card source.now) terms records.now slots.now n result }
 {
     let node = node_of(source, n);
     judge_labels(source, terms.kind, node)?;
@@ -128,7 +128,7 @@ pub(crate) fn judge_nodes<S: CardSource>(
     records: &[FormulaRecord],
     slots: &[Slot<FormulaKey>],
 ) -> Result<(), CardFault>
-    ensures { JudgesNodes (card source.now) terms records.now slots.now result }
+    ensures { JudgesNodes (S.card source.now) terms records.now slots.now result }
 {
     for n in 0..source.node_count() {
         judge_node(source, terms, records, slots, n)?;

@@ -40,7 +40,7 @@ fn with_depth(verdict: Verdict, depth: usize) -> Marked
 
 /// The verdict and the depth of an accepted card.
 pub(crate) fn verdict_of<S: CardSource>(source: &S) -> Marked
-    ensures { DepthKnown (card source.now) → marked_as result ≡ (verdict_of (kind_of (model (card source.now))), depth_of (kind_of (model (card source.now))) (model (card source.now))) }
+    ensures { DepthKnown (S.card source.now) → marked_as result ≡ (verdict_of (kind_of (model (S.card source.now))), depth_of (kind_of (model (S.card source.now))) (model (S.card source.now))) }
 {
     match kind_of(source) {
         Kind::Open => with_depth(Verdict::Realizable, 0),

@@ -188,7 +188,7 @@ fn recalled(memo: &[Option<u16>; 1024], i: u16) -> Option<u16>
 
 // The rest of a literal: entry 1 if it counts as true, entry 0 otherwise.
 fn rest_of_literal<R: Reading>(reading: &R, positive: bool, variable: u8) -> Option<u16>
-    ensures { result ≡ Some (if literals reading.now positive variable then 1 else 0) }
+    ensures { result ≡ Some (if R.literals reading.now positive variable then 1 else 0) }
 {
     if reading.counts(positive, variable) {
         Some(1)
@@ -204,7 +204,7 @@ fn rest_of<R: Reading>(
     reading: &R,
     f: FormulaRecord,
 ) -> Option<u16>
-    ensures { RestOfEntry (literals reading.now) slots.now memo.now f result }
+    ensures { RestOfEntry (R.literals reading.now) slots.now memo.now f result }
 {
     match f.kind {
         0 => Some(0),
@@ -227,7 +227,7 @@ pub fn rests<R: Reading>(
     slots: &[Slot<FormulaKey>],
     reading: &R,
 ) -> [Option<u16>; 1024]
-    ensures rested { Ready records.now slots.now → AllRested (literals reading.now) records.now result }
+    ensures rested { Ready records.now slots.now → AllRested (R.literals reading.now) records.now result }
     ensures past { (i : ℕ) → length records.now ≤ i → slice_index_or result i None ≡ None }
     ensures len { length result ≡ 1024 }
 {

@@ -33,7 +33,7 @@ impl Kind {
 
 /// The kind of a card; a number that is not that of an open card counts as closed.
 pub fn kind_of<S: CardSource>(source: &S) -> Kind
-    ensures { kind_named result ≡ kind_of (model (card source.now)) }
+    ensures { kind_named result ≡ kind_of (model (S.card source.now)) }
 {
     if source.kind() == 1 {
         Kind::Open
@@ -55,7 +55,7 @@ pub fn target_of(m: MoveRecord) -> Target
 
 /// The formula number of a label entry.
 pub fn label_of<S: CardSource>(source: &S, i: usize) -> u16
-    ensures { result ≡ label_at (model (card source.now)) i }
+    ensures { result ≡ label_at (model (S.card source.now)) i }
 {
     match source.label_at(i) {
         Some(label) => label,
@@ -65,7 +65,7 @@ pub fn label_of<S: CardSource>(source: &S, i: usize) -> u16
 
 /// A node by its number.
 pub fn node_of<S: CardSource>(source: &S, i: usize) -> NodeRecord
-    ensures { node_of result ≡ node_at (model (card source.now)) i }
+    ensures { node_of result ≡ node_at (model (S.card source.now)) i }
 {
     match source.node_at(i) {
         Some(node) => node,
@@ -80,7 +80,7 @@ pub fn node_of<S: CardSource>(source: &S, i: usize) -> NodeRecord
 
 /// A move by its number.
 pub fn move_of<S: CardSource>(source: &S, i: usize) -> MoveRecord
-    ensures { move_of result ≡ move_at (model (card source.now)) i }
+    ensures { move_of result ≡ move_at (model (S.card source.now)) i }
 {
     match source.move_at(i) {
         Some(m) => m,

@@ -23,7 +23,7 @@ use rested::rest::rests;
 
 /// Is the root kept? Open: the label of node 0 covers the initial formula. Closed: the initial formula alone covers all of the label.
 pub fn root_kept<S: CardSource>(source: &S, records: &[FormulaRecord], initial: u16) -> bool
-    ensures { TellsRoot (card source.now) records.now initial result }
+    ensures { TellsRoot (S.card source.now) records.now initial result }
 {
     let label = label_marks(source, node_of(source, 0));
     match kind_of(source) {
@@ -39,7 +39,7 @@ fn label_covers<S: CardSource>(
     rests: &[bool; 1024],
     k: u16,
 ) -> bool
-    ensures { TellsStep opened (card source.now) records.now rests.now (node k) result }
+    ensures { TellsStep opened (S.card source.now) records.now rests.now (node k) result }
 {
     let label = label_marks(source, node_of(source, k as usize));
     all_covered(records.len(), rests, &covered_by(records, &label))
@@ -52,7 +52,7 @@ fn covers_label<S: CardSource>(
     rests: &[bool; 1024],
     k: u16,
 ) -> bool
-    ensures { TellsStep closed (card source.now) records.now rests.now (node k) result }
+    ensures { TellsStep closed (S.card source.now) records.now rests.now (node k) result }
 {
     let label = label_marks(source, node_of(source, k as usize));
     all_covered(records.len(), &label, &covered_by(records, rests))
@@ -60,7 +60,7 @@ fn covers_label<S: CardSource>(
 
 /// Closed, at the end: the rests hold false.
 fn holds_false<S: CardSource>(source: &S, records: &[FormulaRecord], rests: &[bool; 1024]) -> bool
-    ensures { TellsStep closed (card source.now) records.now rests.now end result }
+    ensures { TellsStep closed (S.card source.now) records.now rests.now end result }
 {
     let _source = source;
     let mut held = *rests;
@@ -74,7 +74,7 @@ fn open_step_kept<S: CardSource>(
     rests: &[bool; 1024],
     target: Target,
 ) -> bool
-    ensures { TellsStep opened (card source.now) records.now rests.now (target_named target) result }
+    ensures { TellsStep opened (S.card source.now) records.now rests.now (target_named target) result }
 {
     match target {
         Target::End => false,
@@ -88,7 +88,7 @@ fn closed_step_kept<S: CardSource>(
     rests: &[bool; 1024],
     target: Target,
 ) -> bool
-    ensures { TellsStep closed (card source.now) records.now rests.now (target_named target) result }
+    ensures { TellsStep closed (S.card source.now) records.now rests.now (target_named target) result }
 {
     match target {
         Target::End => holds_false(source, records, rests),
@@ -104,7 +104,7 @@ pub fn step_kept<S: CardSource>(
     rests: &[bool; 1024],
     target: Target,
 ) -> bool
-    ensures { TellsStep (kind_named kind) (card source.now) records.now rests.now (target_named target) result }
+    ensures { TellsStep (kind_named kind) (S.card source.now) records.now rests.now (target_named target) result }
 {
     match kind {
         Kind::Open => open_step_kept(source, records, rests, target),

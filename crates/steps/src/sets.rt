@@ -10,7 +10,7 @@ use records::NodeRecord;
 
 /// Marks the formulas of a node's label.
 pub fn add_label<S: CardSource>(source: &S, node: NodeRecord, marks: &mut [bool; 1024])
-    ensures { AddsLabel (card source.now) node marks.old marks.new }
+    ensures { AddsLabel (S.card source.now) node marks.old marks.new }
 {
     let first = node.first_label as usize;
     for k in 0..node.label_count as usize {
@@ -21,7 +21,7 @@ pub fn add_label<S: CardSource>(source: &S, node: NodeRecord, marks: &mut [bool;
 
 /// The marks of a node's label.
 pub fn label_marks<S: CardSource>(source: &S, node: NodeRecord) -> [bool; 1024]
-    ensures { MarksLabel (card source.now) node result }
+    ensures { MarksLabel (S.card source.now) node result }
 {
     let mut marks = [false; 1024];
     add_label(source, node, &mut marks);
@@ -39,7 +39,7 @@ pub(crate) fn only(formula: u16) -> [bool; 1024]
 
 /// The marks of what a node has to keep: the safety formula, which has the number `safety`, and the node's label.
 pub fn obligation_marks<S: CardSource>(source: &S, safety: u16, node: NodeRecord) -> [bool; 1024]
-    ensures { MarksObligations (card source.now) safety node result }
+    ensures { MarksObligations (S.card source.now) safety node result }
 {
     let mut marks = only(safety);
     add_label(source, node, &mut marks);

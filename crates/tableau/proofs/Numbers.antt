@@ -91,8 +91,8 @@ length_nodes lo mo (x ∷ xs) = ap suc (length_nodes (lo + length x.label) (mo +
 record Laid (labels : List ℕ) (moves : List Move) (x : Node) (y : Numbered) : Type 0 where
   label_is : map (λ i. get_or labels i 0) (span x.label_count x.first_label) ≡ y.label
   moves_is : map (λ i. get_or moves i no_move) (span x.move_count x.first_move) ≡ y.moves
-  label_in_lem : x.first_label + x.label_count ≤ length labels
-  moves_in_lem : x.first_move + x.move_count ≤ length moves
+  label_in : x.first_label + x.label_count ≤ length labels
+  moves_in : x.first_move + x.move_count ≤ length moves
   moves_so_many : x.move_count ≡ length y.moves
 
 laid : (labels : List ℕ) (moves : List Move) (xs : List Numbered) (n : ℕ) (pre : List ℕ) (mpre : List Move) (lo mo : ℕ)
@@ -100,12 +100,12 @@ laid : (labels : List ℕ) (moves : List Move) (xs : List Numbered) (n : ℕ) (p
     → Laid labels moves (get_or (nodes_from_lem lo mo xs) n no_node) (get_or xs n none)
 unfolding nodes_from_lem all_labels all_moves
 laid labels moves [] n pre mpre lo mo a b e f =
-    record { label_is = refl; moves_is = refl; label_in_lem = omega arith; moves_in_lem = omega arith; moves_so_many = refl }
+    record { label_is = refl; moves_is = refl; label_in = omega arith; moves_in = omega arith; moves_so_many = refl }
 laid labels moves (x ∷ xs) zero pre mpre lo mo a b e f = record {
   label_is = stretch_mid 0 labels pre x.label (all_labels xs) lo e a;
   moves_is = stretch_mid no_move moves mpre x.moves (all_moves xs) mo f b;
-  label_in_lem = omega (arith, ap length e, length-append pre (x.label ++ all_labels xs), length-append x.label (all_labels xs));
-  moves_in_lem = omega (arith, ap length f, length-append mpre (x.moves ++ all_moves xs), length-append x.moves (all_moves xs));
+  label_in = omega (arith, ap length e, length-append pre (x.label ++ all_labels xs), length-append x.label (all_labels xs));
+  moves_in = omega (arith, ap length f, length-append mpre (x.moves ++ all_moves xs), length-append x.moves (all_moves xs));
   moves_so_many = refl;
 }
 laid labels moves (x ∷ xs) (suc n) pre mpre lo mo a b e f =

@@ -25,7 +25,7 @@ fn put(table: &mut [FormulaRecord; 1024], place: usize, formula: FormulaRecord)
 
 // The formulas of a card, at most 1,024 of them.
 pub fn formulas_of<S: CardSource>(source: &S) -> Records
-    ensures { records_of result ≡ take 1024 (card source.now).formulas }
+    ensures { records_of result ≡ take 1024 (S.card source.now).formulas }
 {
     let mut table = [BLANK; 1024];
     let count = source.formula_count().min(1024);

@@ -15,7 +15,7 @@ pub returns-in_err-first : goal.returns-in_err-first
 returns-in_err-first c =
     let ns = c.args.nodes.now in
     subst (λ (r : Option Formulas). ListedBy ns c.args.initial c.args.safety c.enter.new.slots r)
-    (sym c.from-residual.ensures)
+    (sym c.from_residual.ensures)
     (initial_over c.args.nodes.now c.args.initial c.args.safety c.new-builder.new.slots c.new-builder.result
     c.new-builder.ensures c.in_err-first.ensures)
 

@@ -8,7 +8,7 @@ returns-then-is_too_long c = long_form c.args.text.now c.if-is_too_long.ensures 
 
 pub returns-in_err-roots : goal.returns-in_err-roots
 returns-in_err-roots c =
-    hands_on _ _ c.from-residual.result c.from-residual.ensures.1
+    hands_on _ _ c.from_residual.result c.from_residual.ensures.1
     (short_form c.args.text.now c.if-is_too_long.ensures ∙ c.in_err-roots.ensures)
 
 pub returns : goal.returns

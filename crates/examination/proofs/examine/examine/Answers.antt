@@ -12,8 +12,8 @@ returns-in_err-specification g c =
     let m = length c.args.formulas.now in
     let k = length c.args.records.now in
     let en = c.in_ok-enough_slots.ensures in
-    text_refused n m k c.args.text.now s en c.in_err-specification.field-0.0 c.from-residual-in_err-specification.result
-    c.from-residual-in_err-specification.ensures.1 c.in_err-specification.ensures.value
+    text_refused n m k c.args.text.now s en c.in_err-specification.field-0.0 c.from_residual-in_err-specification.result
+    c.from_residual-in_err-specification.ensures.1 c.in_err-specification.ensures.value
 
 pub returns-in_err-marked : goal.returns-in_err-marked
 returns-in_err-marked g c =
@@ -23,8 +23,8 @@ returns-in_err-marked g c =
     let k = length c.args.records.now in
     let en = c.in_ok-enough_slots.ensures in
     card_refused n m k c.args.text.now s en c.in_ok-specification.specification c.in_ok-specification.ensures.value
-    c.in_err-marked.field-0.0 c.from-residual-in_err-marked.result
-    c.from-residual-in_err-marked.ensures.1 c.in_err-marked.ensures.value
+    c.in_err-marked.field-0.0 c.from_residual-in_err-marked.result
+    c.from_residual-in_err-marked.ensures.1 c.in_err-marked.ensures.value
 
 pub returns : goal.returns
 returns g c =

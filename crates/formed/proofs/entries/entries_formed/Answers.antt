@@ -10,16 +10,16 @@ use Rattle.formed.proofs.entries.entries_formed.Goals as goal
 pub returns-in_err-formulas_formed : goal.returns-in_err-formulas_formed
 returns-in_err-formulas_formed g c = λ spec p q.
     let card = model (g.S.CardSource.card c.args.source.now) in
-    let e = err_from_is_err_and c.from-residual.result c.from-residual.ensures.1 in
+    let e = err_from_is_err_and c.from_residual.result c.from_residual.ensures.1 in
     let x = c.in_err-formulas_formed.field-0.0 in
-    refused c.from-residual.result e.0 x e.1 e.2
+    refused c.from_residual.result e.0 x e.1 e.2
     ∙ then_stop spec card (formula_conditions card) (from_labels card) (fault_of x) (c.in_err-formulas_formed.ensures spec p q)
 
 pub returns-in_err-labels_formed : goal.returns-in_err-labels_formed
 returns-in_err-labels_formed g c = λ spec p q.
     let card = model (g.S.CardSource.card c.args.source.now) in
-    let r = c.from-residual-in_err-labels_formed.result in
-    let e = err_from_is_err_and r c.from-residual-in_err-labels_formed.ensures.1 in
+    let r = c.from_residual-in_err-labels_formed.result in
+    let e = err_from_is_err_and r c.from_residual-in_err-labels_formed.ensures.1 in
     let x = c.in_err-labels_formed.field-0.0 in
     refused r e.0 x e.1 e.2
     ∙ then_next spec card (formula_conditions card) (from_labels card) (Err (fault_of x)) (c.in_ok-formulas_formed.ensures spec p q)
@@ -28,8 +28,8 @@ returns-in_err-labels_formed g c = λ spec p q.
 pub returns-in_err-nodes_formed : goal.returns-in_err-nodes_formed
 returns-in_err-nodes_formed g c = λ spec p q.
     let card = model (g.S.CardSource.card c.args.source.now) in
-    let r = c.from-residual-in_err-nodes_formed.result in
-    let e = err_from_is_err_and r c.from-residual-in_err-nodes_formed.ensures.1 in
+    let r = c.from_residual-in_err-nodes_formed.result in
+    let e = err_from_is_err_and r c.from_residual-in_err-nodes_formed.ensures.1 in
     let x = c.in_err-nodes_formed.field-0.0 in
     refused r e.0 x e.1 e.2
     ∙ then_next spec card (formula_conditions card) (from_labels card) (Err (fault_of x)) (c.in_ok-formulas_formed.ensures spec p q)

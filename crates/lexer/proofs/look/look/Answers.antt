@@ -15,7 +15,7 @@ returns-then-is_ascii_alphabetic c =
     let is = sym c.if-is_ascii_alphabetic.ensures.value in
     let next = c.run_end-next.ensures in
     record {
-      value = worded _ _ _ c.run_end-from.ensures.value c.if-from-text.false is _ _ next.value c.word_token.ensures;
+      value = worded _ _ _ c.run_end-from.ensures.value c.if-from-text.false is _ _ next.value c.word-token.ensures;
       after = c.run_end-from.ensures.bound.1;
       in_text = λ _. next.bound.0 (omega arith);
       more = inr (omega (arith, next.value, word_runs _ _ c.if-from-text.false is));
@@ -41,11 +41,11 @@ returns-else-is_ascii_digit c =
     let nor = sym c.if-is_ascii_digit.ensures.value in
     let second = c.byte_at.ensures in
     let third = c.byte_at-else-is_ascii_digit.ensures in
-    let token = c.symbol_token.ensures in
+    let token = c.symbol-token.ensures in
     let len = c.symbol_len.ensures in
     record {
       value = signed_is _ _ _ from.value lt non nor _ _ _ _ second third token len;
       after = from.bound.1;
       in_text = λ _. omega (arith, len, symbol_fits _ _ _ _ _ lt second third token);
-      more = inr (omega (arith, len, symbol_long c.symbol_token.result));
+      more = inr (omega (arith, len, symbol_long c.symbol-token.result));
     }

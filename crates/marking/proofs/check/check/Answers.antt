@@ -22,9 +22,9 @@ returns-in_err-enough_slots g c =
     let s = g.S.CardSource.card c.args.source.now in
     let spec = game_of (view c.args.specification.now) in
     let n = length c.args.slots.now in
-    let r = c.from-residual.result in
+    let r = c.from_residual.result in
     let v : checked_as r ≡ checks n spec (model s) =
-    short_handed n spec (model s) r c.in_err-enough_slots.field-0.0 c.from-residual.ensures.1 c.in_err-enough_slots.ensures in
+    short_handed n spec (model s) r c.in_err-enough_slots.field-0.0 c.from_residual.ensures.1 c.in_err-enough_slots.ensures in
     record { value = v; meaning = meaning_of n spec (model s) (spec_sound c.args.specification.now).game (checked_as r) v }
 
 pub returns-in_err-listing : goal.returns-in_err-listing
@@ -33,10 +33,10 @@ returns-in_err-listing g c =
     let spec = game_of (view c.args.specification.now) in
     let n = length c.args.slots.now in
     let room : 2048 ≤ n = slots_enough n c.in_ok-enough_slots.ensures in
-    let r = c.from-residual-in_err-listing.result in
+    let r = c.from_residual-in_err-listing.result in
     let e = c.in_err-listing.field-0.0 in
     let v : checked_as r ≡ checks n spec (model s) =
-    handed_check e r c.from-residual-in_err-listing.ensures.1
+    handed_check e r c.from_residual-in_err-listing.ensures.1
     ∙ sym (judged n spec (model s) room ∙ before_fails spec (model s) (fault_of e) (sym (c.in_err-listing.ensures.judged room))) in
     record { value = v; meaning = meaning_of n spec (model s) (spec_sound c.args.specification.now).game (checked_as r) v }
 
@@ -51,10 +51,10 @@ returns-in_err-judge_root g c =
     let slots = c.list_formulas.new.slots in
     let slice = c.as_slice.result.now in
     let q = c.as_slice.ensures ∙ w.records in
-    let r = c.from-residual-in_err-judge_root.result in
+    let r = c.from_residual-in_err-judge_root.result in
     let e = c.in_err-judge_root.field-0.0 in
     let v : checked_as r ≡ checks n spec (model s) =
-    handed_check e r c.from-residual-in_err-judge_root.ensures.1
+    handed_check e r c.from_residual-in_err-judge_root.ensures.1
     ∙ sym (judged n spec (model s) room ∙ root_fails spec (model s) (sym (c.in_ok-listing.ensures.judged room)) (fault_of e)
     (sym (c.in_err-judge_root.ensures spec w.labelled q (initial_below spec s slots list w slice q) (initial_is spec s slots list w slice q)))) in
     record { value = v; meaning = meaning_of n spec (model s) (spec_sound c.args.specification.now).game (checked_as r) v }
@@ -78,10 +78,10 @@ returns-in_err-judge_nodes g c =
     let k = known_here spec s slots list w rs p c.environment_count.result c.system_count.result c.kind_of.result c.kind_of.ensures
     (sym c.environment_count.ensures) (subst (λ (m : ℕ). m ≤ 16) (sym c.environment_count.ensures) sound.environment)
     (sym c.system_count.ensures) (subst (λ (m : ℕ). m ≤ 16) (sym c.system_count.ensures) sound.system) sound.free in
-    let r = c.from-residual-in_err-judge_nodes.result in
+    let r = c.from_residual-in_err-judge_nodes.result in
     let e = c.in_err-judge_nodes.field-0.0 in
     let u : checked_as r ≡ checks n spec (model s) =
-    handed_check e r c.from-residual-in_err-judge_nodes.ensures.1
+    handed_check e r c.from_residual-in_err-judge_nodes.ensures.1
     ∙ sym (judged n spec (model s) room ∙ nodes_fail spec (model s) (sym (c.in_ok-listing.ensures.judged room)) root (fault_of e)
     (sym (c.in_err-judge_nodes.ensures spec k))) in
     record { value = u; meaning = meaning_of n spec (model s) sound.game (checked_as r) u }

@@ -19,10 +19,10 @@ returns-in_err-counts_right g c =
     let s = g.S.CardSource.card c.args.source.now in
     let spec = game_of (view c.args.specification.now) in
     let e = c.in_err-counts_right.field-0.0 in
-    let r = c.from-residual.result in
+    let r = c.from_residual.result in
     record {
-      judged = λ l. handed e r c.from-residual.ensures.1 ∙ sym (counts_fail spec s (fault_of e) (sym (c.in_err-counts_right.ensures spec)));
-      listed = λ l. MatchResult-from_err r _ _ c.from-residual.ensures.0 (λ y. tt);
+      judged = λ l. handed e r c.from_residual.ensures.1 ∙ sym (counts_fail spec s (fault_of e) (sym (c.in_err-counts_right.ensures spec)));
+      listed = λ l. MatchResult-from_err r _ _ c.from_residual.ensures.0 (λ y. tt);
     }
 
 pub returns-in_err-entries_formed : goal.returns-in_err-entries_formed
@@ -30,13 +30,13 @@ returns-in_err-entries_formed g c =
     let s = g.S.CardSource.card c.args.source.now in
     let spec = game_of (view c.args.specification.now) in
     let e = c.in_err-entries_formed.field-0.0 in
-    let r = c.from-residual-in_err-entries_formed.result in
+    let r = c.from_residual-in_err-entries_formed.result in
     let counted = sym (c.in_ok-counts_right.ensures spec) in
     record {
-      judged = λ l. handed e r c.from-residual-in_err-entries_formed.ensures.1
+      judged = λ l. handed e r c.from_residual-in_err-entries_formed.ensures.1
           ∙ sym (forms_fail spec s counted (fault_of e)
           (sym (c.in_err-entries_formed.ensures spec (sym c.environment_count.ensures) (sym c.system_count.ensures))));
-      listed = λ l. MatchResult-from_err r _ _ c.from-residual-in_err-entries_formed.ensures.0 (λ y. tt);
+      listed = λ l. MatchResult-from_err r _ _ c.from_residual-in_err-entries_formed.ensures.0 (λ y. tt);
     }
 
 -- once all entries are of good form, the slice is the card's list
@@ -49,17 +49,17 @@ returns-in_err-index_formulas g c =
     let s = g.S.CardSource.card c.args.source.now in
     let spec = game_of (view c.args.specification.now) in
     let e = c.in_err-index_formulas.field-0.0 in
-    let r = c.from-residual-in_err-index_formulas.result in
+    let r = c.from_residual-in_err-index_formulas.result in
     let counted = sym (c.in_ok-counts_right.ensures spec) in
     let formed = sym (c.in_ok-entries_formed.ensures spec (sym c.environment_count.ensures) (sym c.system_count.ensures)) in
     let slice = c.as_slice.result.now in
     let q = slice_is spec s counted formed slice (records_of c.formulas_of-records.result) c.as_slice.ensures c.formulas_of-records.ensures in
     let few : length slice ≤ 1024 = omega (arith, ap length q, few_formulas spec s counted formed) in
     record {
-      judged = λ l. handed e r c.from-residual-in_err-index_formulas.ensures.1
+      judged = λ l. handed e r c.from_residual-in_err-index_formulas.ensures.1
           ∙ sym (news_fail spec s counted formed (fault_of e)
           (sym (news_as spec s slice q) ∙ sym (c.in_err-index_formulas.ensures.judged few l spec (model s) (ap (map entry_of) (sym q)))));
-      listed = λ l. MatchResult-from_err r _ _ c.from-residual-in_err-index_formulas.ensures.0 (λ y. tt);
+      listed = λ l. MatchResult-from_err r _ _ c.from_residual-in_err-index_formulas.ensures.0 (λ y. tt);
     }
 
 pub returns-in_default : goal.returns-in_default

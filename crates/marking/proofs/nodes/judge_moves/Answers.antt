@@ -15,7 +15,7 @@ pub returns-in_err-judge_move : goal.returns-in_err-judge_move
 returns-in_err-judge_move g c spec n p =
     let s = g.S.CardSource.card c.args.source.now in
     let e = c.in_err-judge_move.field-0.0 in
-    handed e c.from-residual.result c.from-residual.ensures.1
+    handed e c.from_residual.result c.from_residual.ensures.1
     ∙ sym (groups_fail (kept spec (model s)) fault (at_move n) c.args.node.move_count c.args.node.first_move c.loop-k.k (fault_of e)
     c.loop-k-test.true (sym (c.in_err-judge_move.ensures spec n p)))
     ∙ c.loop-k.invariant spec n p

@@ -15,7 +15,7 @@ returns-in_err-judge_labels g c spec k l =
     let n = c.args.n in
     let e = c.in_err-judge_labels.field-0.0 in
     let y = node_of x in
-    handed e c.from-residual.result c.from-residual.ensures.1
+    handed e c.from_residual.result c.from_residual.ensures.1
     ∙ sym (group_fail (kept spec (model s)) fault (labels_by y) ((covering_kept n ∷ []) ++ (targets_by n y ++ moves_by n y)) (fault_of e)
     (sym (c.in_err-judge_labels.ensures spec k.labelled k.kinds)))
     ∙ node_is spec s x n c.node_of-node.ensures
@@ -28,7 +28,7 @@ returns-in_err-judge_covering g c spec k l =
     let e = c.in_err-judge_covering.field-0.0 in
     let y = node_of x in
     let ready = splitting spec s c.args.terms c.args.records.now c.args.slots.now k x n c.node_of-node.ensures l in
-    handed e c.from-residual-in_err-judge_covering.result c.from-residual-in_err-judge_covering.ensures.1
+    handed e c.from_residual-in_err-judge_covering.result c.from_residual-in_err-judge_covering.ensures.1
     ∙ sym (group_pass (kept spec (model s)) fault (labels_by y) ((covering_kept n ∷ []) ++ (targets_by n y ++ moves_by n y))
     (sym (c.in_ok-judge_labels.ensures spec k.labelled k.kinds))
     ∙ group_fail (kept spec (model s)) fault (covering_kept n ∷ []) (targets_by n y ++ moves_by n y) (fault_of e)
@@ -43,7 +43,7 @@ returns-in_err-judge_targets g c spec k l =
     let e = c.in_err-judge_targets.field-0.0 in
     let y = node_of x in
     let ready = splitting spec s c.args.terms c.args.records.now c.args.slots.now k x n c.node_of-node.ensures l in
-    handed e c.from-residual-in_err-judge_targets.result c.from-residual-in_err-judge_targets.ensures.1
+    handed e c.from_residual-in_err-judge_targets.result c.from_residual-in_err-judge_targets.ensures.1
     ∙ sym (group_pass (kept spec (model s)) fault (labels_by y) ((covering_kept n ∷ []) ++ (targets_by n y ++ moves_by n y))
     (sym (c.in_ok-judge_labels.ensures spec k.labelled k.kinds))
     ∙ group_pass (kept spec (model s)) fault (covering_kept n ∷ []) (targets_by n y ++ moves_by n y)

@@ -20,7 +20,7 @@ returns-in_err-judge_node g c spec k =
     let e = c.in_err-judge_node.field-0.0 in
     let l : n < length s.nodes = omega (arith, c.node_count-n-end.ensures) in
     let z : n ≡ 0 + n = omega arith in
-    handed e c.from-residual.result c.from-residual.ensures.1
+    handed e c.from_residual.result c.from_residual.ensures.1
     ∙ sym (groups_fail (kept spec (model s)) fault (at_node (model s)) (length (model s).nodes) 0 n (fault_of e)
     (omega (arith, model_nodes s))
     (subst (λ (i : ℕ). judged_by spec (model s) (at_node (model s) i) ≡ Err (fault_of e)) z (sym (c.in_err-judge_node.ensures spec k l))))

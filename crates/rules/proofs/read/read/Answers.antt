@@ -6,15 +6,15 @@ use Rattle.rules.proofs.read.read.Goals as goal
 pub returns-in_err-parsed : goal.returns-in_err-parsed
 returns-in_err-parsed c =
     let room = ltb-false _ 2048 (sym c.if-too_few.ensures) in
-    let p = handed_on _ _ _ _ c.from-residual.result c.from-residual.ensures.1 (parse_refused _ _ _ _ room c.in_err-parsed.ensures.value) in
+    let p = handed_on _ _ _ _ c.from_residual.result c.from_residual.ensures.1 (parse_refused _ _ _ _ room c.in_err-parsed.ensures.value) in
     record { value = p.value; derived = p.derived; meaning = p.meaning; game = p.game }
 
-pub invariant-of-result : goal.invariant-of-result
-invariant-of-result c =
+pub invariant_of-result : goal.invariant_of-result
+invariant_of-result c =
     let k = parsed _ _ _ c.in_ok-parsed.ensures.value in
     let l = c.in-Ok.ensures.value in
     let m = made _ _ _ _ k l.1 l.2 in
-    (m.0, (∣ (c.args.text.now, m.1) ∣₁, tt))
+    record { form = m.0; read = ∣ (c.args.text.now, m.1) ∣₁ }
 
 pub returns-in-Ok : goal.returns-in-Ok
 returns-in-Ok c =

@@ -143,8 +143,8 @@ equivalence-returns-in-Second t c =
     c.joint-both.ensures c.joint-neither.ensures c.in-Second.ensures in
     alike c.args.nodes.now _ _ _ _ p c.pair-in-Second.ensures
 
-pub equivalence-returns-in_err-left : goal.equivalence-returns-in_err-left
-equivalence-returns-in_err-left t c =
+pub equivalence-returns-in_err-left-in-Both : goal.equivalence-returns-in_err-left-in-Both
+equivalence-returns-in_err-left-in-Both t c =
     let f = both_of c.args.nodes.now c.args.a c.args.b c.args.sign in
     let g = neither_of c.args.nodes.now c.args.a c.args.b c.args.sign in
     let p =
@@ -152,11 +152,11 @@ equivalence-returns-in_err-left t c =
     c.signed.ensures c.signed-2.ensures c.signed-3.ensures c.signed-4.ensures
     c.joint-both.ensures c.joint-neither.ensures c.in-Both.ensures in
     fails c.args.nodes.now c.pair-in-Both.new.slots c.args.self.now (junction Or f g) c.pair-in-Both.new.self
-    c.from-residual.ensures
-    (first_over Or f g p (listed c.args.self.now) c.in_err-left.ensures)
+    c.from_residual.ensures
+    (first_over Or f g p (listed c.args.self.now) c.in_err-left-in-Both.ensures)
 
-pub equivalence-returns-in_err-right : goal.equivalence-returns-in_err-right
-equivalence-returns-in_err-right t c =
+pub equivalence-returns-in_err-right-in-Both : goal.equivalence-returns-in_err-right-in-Both
+equivalence-returns-in_err-right-in-Both t c =
     let f = both_of c.args.nodes.now c.args.a c.args.b c.args.sign in
     let g = neither_of c.args.nodes.now c.args.a c.args.b c.args.sign in
     let p =
@@ -164,7 +164,7 @@ equivalence-returns-in_err-right t c =
     c.signed.ensures c.signed-2.ensures c.signed-3.ensures c.signed-4.ensures
     c.joint-both.ensures c.joint-neither.ensures c.in-Both.ensures in
     fails c.args.nodes.now c.pair-in-Both-2.new.slots c.args.self.now (junction Or f g) c.pair-in-Both-2.new.self
-    c.from-residual-in_err-right.ensures (second_over Or f g p c.in_ok-left.ensures c.in_err-right.ensures)
+    c.from_residual-in_err-right-in-Both.ensures (second_over Or f g p c.in_ok-left-in-Both.ensures c.in_err-right-in-Both.ensures)
 
 pub equivalence-add-requires : goal.equivalence-add-requires
 equivalence-add-requires t c =
@@ -175,20 +175,20 @@ equivalence-add-requires t c =
     c.signed.ensures c.signed-2.ensures c.signed-3.ensures c.signed-4.ensures
     c.joint-both.ensures c.joint-neither.ensures c.in-Both.ensures in
     record {
-      sound = c.in_ok-right.ensures.ready.sound;
-      parts = both_below Or f g p c.requires.ready c.in_ok-left.ensures c.in_ok-right.ensures
+      sound = c.in_ok-right-in-Both.ensures.ready.sound;
+      parts = both_below Or f g p c.requires.ready c.in_ok-left-in-Both.ensures c.in_ok-right-in-Both.ensures
           c.joined.ensures;
     }
 
-pub equivalence-returns-in_ok-right : goal.equivalence-returns-in_ok-right
-equivalence-returns-in_ok-right t c =
+pub equivalence-returns-in_ok-right-in-Both : goal.equivalence-returns-in_ok-right-in-Both
+equivalence-returns-in_ok-right-in-Both t c =
     let f = both_of c.args.nodes.now c.args.a c.args.b c.args.sign in
     let g = neither_of c.args.nodes.now c.args.a c.args.b c.args.sign in
     let p =
     equivalence_plan c.requires.given c.args.a c.args.b c.args.sign c.requires.first c.requires.second
     c.signed.ensures c.signed-2.ensures c.signed-3.ensures c.signed-4.ensures
     c.joint-both.ensures c.joint-neither.ensures c.in-Both.ensures in
-    both_enter Or f g p c.requires.ready c.in_ok-left.ensures c.in_ok-right.ensures c.joined.ensures
+    both_enter Or f g p c.requires.ready c.in_ok-left-in-Both.ensures c.in_ok-right-in-Both.ensures c.joined.ensures
     _ _ c.add.result c.add.ensures
 
 -- ── pair ──
@@ -214,19 +214,19 @@ pair-returns-in-Second t c =
     c.signed.ensures c.signed-2.ensures c.in-Second.ensures in
     alike c.args.nodes.now _ _ _ _ p c.enter-in-Second.ensures
 
-pub pair-returns-in_err-left : goal.pair-returns-in_err-left
-pair-returns-in_err-left t c =
+pub pair-returns-in_err-left-in-Both : goal.pair-returns-in_err-left-in-Both
+pair-returns-in_err-left-in-Both t c =
     let f = formula_of c.args.nodes.now c.args.a in
     let g = formula_of c.args.nodes.now c.args.b in
     let p =
     pair_plan c.requires.given c.args.operator c.args.a c.args.b c.requires.first c.requires.second
     c.signed.ensures c.signed-2.ensures c.in-Both.ensures in
     fails c.args.nodes.now c.enter-in-Both.new.slots c.args.self.now (junction c.args.operator f g)
-    c.enter-in-Both.new.self c.from-residual.ensures
-    (first_over c.args.operator f g p (listed c.args.self.now) c.in_err-left.ensures)
+    c.enter-in-Both.new.self c.from_residual.ensures
+    (first_over c.args.operator f g p (listed c.args.self.now) c.in_err-left-in-Both.ensures)
 
-pub pair-returns-in_err-right : goal.pair-returns-in_err-right
-pair-returns-in_err-right t c =
+pub pair-returns-in_err-right-in-Both : goal.pair-returns-in_err-right-in-Both
+pair-returns-in_err-right-in-Both t c =
     let f = formula_of c.args.nodes.now c.args.a in
     let g = formula_of c.args.nodes.now c.args.b in
     let p =
@@ -234,8 +234,8 @@ pair-returns-in_err-right t c =
     c.signed.ensures c.signed-2.ensures c.in-Both.ensures in
     fails c.args.nodes.now c.enter-in-Both-2.new.slots c.args.self.now (junction c.args.operator f g)
     c.enter-in-Both-2.new.self
-    c.from-residual-in_err-right.ensures
-    (second_over c.args.operator f g p c.in_ok-left.ensures c.in_err-right.ensures)
+    c.from_residual-in_err-right-in-Both.ensures
+    (second_over c.args.operator f g p c.in_ok-left-in-Both.ensures c.in_err-right-in-Both.ensures)
 
 pub pair-add-requires : goal.pair-add-requires
 pair-add-requires t c =
@@ -245,19 +245,19 @@ pair-add-requires t c =
     pair_plan c.requires.given c.args.operator c.args.a c.args.b c.requires.first c.requires.second
     c.signed.ensures c.signed-2.ensures c.in-Both.ensures in
     record {
-      sound = c.in_ok-right.ensures.ready.sound;
-      parts = both_below c.args.operator f g p c.requires.ready c.in_ok-left.ensures c.in_ok-right.ensures
+      sound = c.in_ok-right-in-Both.ensures.ready.sound;
+      parts = both_below c.args.operator f g p c.requires.ready c.in_ok-left-in-Both.ensures c.in_ok-right-in-Both.ensures
           c.joined.ensures;
     }
 
-pub pair-returns-in_ok-right : goal.pair-returns-in_ok-right
-pair-returns-in_ok-right t c =
+pub pair-returns-in_ok-right-in-Both : goal.pair-returns-in_ok-right-in-Both
+pair-returns-in_ok-right-in-Both t c =
     let f = formula_of c.args.nodes.now c.args.a in
     let g = formula_of c.args.nodes.now c.args.b in
     let p =
     pair_plan c.requires.given c.args.operator c.args.a c.args.b c.requires.first c.requires.second
     c.signed.ensures c.signed-2.ensures c.in-Both.ensures in
-    both_enter c.args.operator f g p c.requires.ready c.in_ok-left.ensures c.in_ok-right.ensures
+    both_enter c.args.operator f g p c.requires.ready c.in_ok-left-in-Both.ensures c.in_ok-right-in-Both.ensures
     c.joined.ensures
     _ _ c.add.result c.add.ensures
 
@@ -268,34 +268,34 @@ unary-returns-in-Not t c =
     let ns = c.args.nodes.now in
     alike ns _ _ _ _ (ap (λ p. unary_of ns p c.args.part) c.in-Not.is ∙ unary_not ns c.args.part) c.enter.ensures
 
-pub unary-returns-in_err-number : goal.unary-returns-in_err-number
-unary-returns-in_err-number t c =
+pub unary-returns-in_err-number-in-Next : goal.unary-returns-in_err-number-in-Next
+unary-returns-in_err-number-in-Next t c =
     let ns = c.args.nodes.now in
     let varies : kind (unary_of c.args.nodes.now (prefix.Next c.in-Next.n) c.args.part) ≡ other =
     ap (λ p. kind (unary_of c.args.nodes.now p c.args.part)) (sym c.in-Next.is) ∙ c.requires.varies in
     let is = ap (λ p. unary_of ns p c.args.part) c.in-Next.is ∙ unary_next ns c.args.part c.in-Next.n varies in
     fails ns c.enter-in-Next.new.slots c.args.self.now (unary_of ns c.args.prefix c.args.part)
-    c.enter-in-Next.new.self c.from-residual.ensures
+    c.enter-in-Next.new.self c.from_residual.ensures
     (one_over (next c.in-Next.n) (λ ys f. refl) (listed c.args.self.now) (formula_of ns c.args.part) is
-    c.in_err-number.ensures)
+    c.in_err-number-in-Next.ensures)
 
-pub unary-returns-in_ok-number : goal.unary-returns-in_ok-number
-unary-returns-in_ok-number t c =
+pub unary-returns-in_ok-number-in-Next : goal.unary-returns-in_ok-number-in-Next
+unary-returns-in_ok-number-in-Next t c =
     let ns = c.args.nodes.now in
     let varies : kind (unary_of c.args.nodes.now (prefix.Next c.in-Next.n) c.args.part) ≡ other =
     ap (λ p. kind (unary_of c.args.nodes.now p c.args.part)) (sym c.in-Next.is) ∙ c.requires.varies in
     let is = ap (λ p. unary_of ns p c.args.part) c.in-Next.is ∙ unary_next ns c.args.part c.in-Next.n varies in
-    one_enters (next c.in-Next.n) (λ ys f. refl) _ _ (Next c.in-Next.n c.in_ok-number.number) c.add.result
-    c.requires.ready c.in_ok-number.ensures is
+    one_enters (next c.in-Next.n) (λ ys f. refl) _ _ (Next c.in-Next.n c.in_ok-number-in-Next.number) c.add.result
+    c.requires.ready c.in_ok-number-in-Next.ensures is
     refl c.add.ensures
 
 pub unary-add-requires : goal.unary-add-requires
 unary-add-requires t c =
-    let d = c.in_ok-number.ensures in
-    record { sound = d.ready.sound; parts = number_below c.in_ok-number.number d.ready.sound d.here }
+    let d = c.in_ok-number-in-Next.ensures in
+    record { sound = d.ready.sound; parts = number_below c.in_ok-number-in-Next.number d.ready.sound d.here }
 
-pub unary-returns-in_err-number-2 : goal.unary-returns-in_err-number-2
-unary-returns-in_err-number-2 t c =
+pub unary-returns-in_err-number-in-Always : goal.unary-returns-in_err-number-in-Always
+unary-returns-in_err-number-in-Always t c =
     let ns = c.args.nodes.now in
     let s = c.args.part.sign in
     let n = c.in-Always.n in
@@ -304,12 +304,12 @@ unary-returns-in_err-number-2 t c =
     ap (λ p. kind (unary_of c.args.nodes.now p c.args.part)) (sym c.in-Always.is) ∙ c.requires.varies in
     let is = ap (λ p. unary_of ns p c.args.part) c.in-Always.is ∙ unary_always ns c.args.part n m varies in
     fails ns c.enter-in-Always.new.slots c.args.self.now (unary_of ns c.args.prefix c.args.part)
-    c.enter-in-Always.new.self c.from-residual-in_err-number-2.ensures
+    c.enter-in-Always.new.self c.from_residual-in_err-number-in-Always.ensures
     (one_over (bounded_tree s n m) (bounded_enter s n m) (listed c.args.self.now) (formula_of ns c.args.part) is
-    c.in_err-number-2.ensures)
+    c.in_err-number-in-Always.ensures)
 
-pub unary-returns-in_ok-number-2 : goal.unary-returns-in_ok-number-2
-unary-returns-in_ok-number-2 t c =
+pub unary-returns-in_ok-number-in-Always : goal.unary-returns-in_ok-number-in-Always
+unary-returns-in_ok-number-in-Always t c =
     let ns = c.args.nodes.now in
     let s = c.args.part.sign in
     let n = c.in-Always.n in
@@ -318,24 +318,24 @@ unary-returns-in_ok-number-2 t c =
     ap (λ p. kind (unary_of c.args.nodes.now p c.args.part)) (sym c.in-Always.is) ∙ c.requires.varies in
     let is = ap (λ p. unary_of ns p c.args.part) c.in-Always.is ∙ unary_always ns c.args.part n m varies in
     one_enters (bounded_tree s n m) (bounded_enter s n m) _ _ c.bounded.result c.add-in-Always.result c.requires.ready
-    c.in_ok-number-2.ensures is
-    (bounded_grow s n m c.in_ok-number-2.number (listed c.enter-in-Always.new.self) c.bounded.ensures)
+    c.in_ok-number-in-Always.ensures is
+    (bounded_grow s n m c.in_ok-number-in-Always.number (listed c.enter-in-Always.new.self) c.bounded.ensures)
     c.add-in-Always.ensures
 
 pub unary-add-requires-in-Always : goal.unary-add-requires-in-Always
 unary-add-requires-in-Always t c =
-    let d = c.in_ok-number-2.ensures in
+    let d = c.in_ok-number-in-Always.ensures in
     let s = c.args.part.sign in
     let n = c.in-Always.n in
     let m = c.in-Always.m in
     record {
       sound = d.ready.sound;
-      parts = bounded_below s n m c.in_ok-number-2.number c.enter-in-Always.new.self.count c.bounded.ensures
-          (number_below c.in_ok-number-2.number d.ready.sound d.here);
+      parts = bounded_below s n m c.in_ok-number-in-Always.number c.enter-in-Always.new.self.count c.bounded.ensures
+          (number_below c.in_ok-number-in-Always.number d.ready.sound d.here);
     }
 
-pub unary-returns-in_err-number-3 : goal.unary-returns-in_err-number-3
-unary-returns-in_err-number-3 t c =
+pub unary-returns-in_err-number-in-Eventually : goal.unary-returns-in_err-number-in-Eventually
+unary-returns-in_err-number-in-Eventually t c =
     let ns = c.args.nodes.now in
     let s = not c.args.part.sign in
     let n = c.in-Eventually.n in
@@ -345,12 +345,12 @@ unary-returns-in_err-number-3 t c =
     ap (λ p. kind (unary_of c.args.nodes.now p c.args.part)) (sym c.in-Eventually.is) ∙ c.requires.varies in
     let is = ap (λ p. unary_of ns p c.args.part) c.in-Eventually.is ∙ unary_eventually ns c.args.part n m varies in
     fails ns c.enter-in-Eventually.new.slots c.args.self.now (unary_of ns c.args.prefix c.args.part)
-    c.enter-in-Eventually.new.self c.from-residual-in_err-number-3.ensures
+    c.enter-in-Eventually.new.self c.from_residual-in_err-number-in-Eventually.ensures
     (one_over (bounded_tree s n m) (bounded_enter s n m) (listed c.args.self.now) (formula_of ns c.args.part) is
-    c.in_err-number-3.ensures)
+    c.in_err-number-in-Eventually.ensures)
 
-pub unary-returns-in_ok-number-3 : goal.unary-returns-in_ok-number-3
-unary-returns-in_ok-number-3 t c =
+pub unary-returns-in_ok-number-in-Eventually : goal.unary-returns-in_ok-number-in-Eventually
+unary-returns-in_ok-number-in-Eventually t c =
     let ns = c.args.nodes.now in
     let s = not c.args.part.sign in
     let n = c.in-Eventually.n in
@@ -360,18 +360,18 @@ unary-returns-in_ok-number-3 t c =
     ap (λ p. kind (unary_of c.args.nodes.now p c.args.part)) (sym c.in-Eventually.is) ∙ c.requires.varies in
     let is = ap (λ p. unary_of ns p c.args.part) c.in-Eventually.is ∙ unary_eventually ns c.args.part n m varies in
     one_enters (bounded_tree s n m) (bounded_enter s n m) _ _ c.bounded-in-Eventually.result c.add-in-Eventually.result
-    c.requires.ready c.in_ok-number-3.ensures is
-    (bounded_grow s n m c.in_ok-number-3.number (listed c.enter-in-Eventually.new.self)
+    c.requires.ready c.in_ok-number-in-Eventually.ensures is
+    (bounded_grow s n m c.in_ok-number-in-Eventually.number (listed c.enter-in-Eventually.new.self)
     c.bounded-in-Eventually.ensures) c.add-in-Eventually.ensures
 
 pub unary-add-requires-in-Eventually : goal.unary-add-requires-in-Eventually
 unary-add-requires-in-Eventually t c =
-    let d = c.in_ok-number-3.ensures in
+    let d = c.in_ok-number-in-Eventually.ensures in
     let s = not c.args.part.sign in
     let n = c.in-Eventually.n in
     let m = c.in-Eventually.m in
     record {
       sound = d.ready.sound;
-      parts = bounded_below s n m c.in_ok-number-3.number c.enter-in-Eventually.new.self.count
-          c.bounded-in-Eventually.ensures (number_below c.in_ok-number-3.number d.ready.sound d.here);
+      parts = bounded_below s n m c.in_ok-number-in-Eventually.number c.enter-in-Eventually.new.self.count
+          c.bounded-in-Eventually.ensures (number_below c.in_ok-number-in-Eventually.number d.ready.sound d.here);
     }

@@ -19,7 +19,7 @@ use Rattle.parser.proofs.reader.Reader.+arrow_chain_operand_unary.Goals as goal
 pub arrow-returns-in_err-part : goal.arrow-returns-in_err-part
 arrow-returns-in_err-part t c =
     failed 0 _ c.args.text.now c.args.at c.args.self.now c.operand.new.self c.operand.new.slots _
-    c.from-residual.result c.from-residual.ensures.1 (arrow_stop _ _ _ _ _ c.in_err-part.ensures)
+    c.from_residual.result c.from_residual.ensures.1 (arrow_stop _ _ _ _ _ c.in_err-part.ensures)
 
 pub arrow-returns-then-not-is_symbol : goal.arrow-returns-then-not-is_symbol
 arrow-returns-then-not-is_symbol t c =
@@ -38,7 +38,7 @@ arrow-returns-in_err-right t c =
     let d = c.in_ok-part.ensures in
     let e = c.if-not-is_symbol.ensures ∙ ap (λ y. is_symbol y c.look-seen.result.token) c.symbol_of.ensures in
     failed 0 _ c.args.text.now c.args.at c.args.self.now c.arrow.new.self c.arrow.new.slots _
-    c.from-residual-in_err-right.result c.from-residual-in_err-right.ensures.1
+    c.from_residual-in_err-right.result c.from_residual-in_err-right.ensures.1
     (arrow_then _ _ _ _ _ _ d.0 _ c.look-seen.ensures.value e (omega arith) _ c.in_err-right.ensures)
 
 pub arrow-returns : goal.arrow-returns
@@ -57,7 +57,7 @@ arrow-returns t c =
 pub chain-returns-in_err-part : goal.chain-returns-in_err-part
 chain-returns-in_err-part t c =
     failed 0 _ c.args.text.now c.args.at c.args.self.now c.operand.new.self c.operand.new.slots _
-    c.from-residual.result c.from-residual.ensures.1 (chain_then _ _ _ _ _ c.in_err-part.ensures)
+    c.from_residual.result c.from_residual.ensures.1 (chain_then _ _ _ _ _ c.in_err-part.ensures)
 
 pub chain-returns-then-not-is_symbol : goal.chain-returns-then-not-is_symbol
 chain-returns-then-not-is_symbol t c =
@@ -72,7 +72,7 @@ chain-returns-in_err-right t c =
     let e = c.if-not-is_symbol.ensures ∙ ap (λ y. is_symbol y c.look-seen.result.token) c.symbol_of.ensures in
     let i = c.loop-i.invariant in
     failed 0 _ c.args.text.now c.args.at c.args.self.now c.operand-in-loop-i.new.self
-    c.operand-in-loop-i.new.slots _ c.from-residual-in_err-right.result c.from-residual-in_err-right.ensures.1
+    c.operand-in-loop-i.new.slots _ c.from_residual-in_err-right.result c.from_residual-in_err-right.ensures.1
     (chain_then _ _ _ _ _ d.0 ∙ i.0
     ∙ more_then _ _ _ _ _ _ _ c.look-seen.ensures.value e (omega (arith, c.loop-i-test.true)) _ c.in_err-right.ensures)
 
@@ -140,53 +140,53 @@ unary-returns-then-left-eq0 t c =
     prefix_full _ _ _ _ c.look-seen.ensures.value _ c.in-Prefix.ensures c.if-left-eq0.true
     ∙ ap stop (sym c.too_deep.ensures)
 
-pub unary-returns-in_err-prefixed : goal.unary-returns-in_err-prefixed
-unary-returns-in_err-prefixed t c =
+pub unary-returns-in_err-prefixed-in-Prefix : goal.unary-returns-in_err-prefixed-in-Prefix
+unary-returns-in_err-prefixed-in-Prefix t c =
     failed 0 _ c.args.text.now c.args.at c.args.self.now c.args.self.now c.args.slots.now _
-    c.from-residual.result c.from-residual.ensures.1
+    c.from_residual.result c.from_residual.ensures.1
     (prefix_on _ _ _ _ c.look-seen.ensures.value _ c.in-Prefix.ensures (omega arith) _
-    (sym c.in_err-prefixed.ensures))
+    (sym c.in_err-prefixed-in-Prefix.ensures))
 
 pub unary-unary-requires : goal.unary-unary-requires
 unary-unary-requires t c =
     let v = c.look-seen.ensures in
     let lt = prefix_reads v _ c.in-Prefix.ensures in
     let g =
-    prefix_ok c.args.text.now c.look-seen.result.next c.in-Prefix.operator c.in_ok-prefixed.prefixed
-    (sym c.in_ok-prefixed.ensures) in
+    prefix_ok c.args.text.now c.look-seen.result.next c.in-Prefix.operator c.in_ok-prefixed-in-Prefix.prefixed
+    (sym c.in_ok-prefixed-in-Prefix.ensures) in
     (omega (arith, c.decreases), ready_on c.requires _ (omega (arith, v.after, g.after)) (g.in_text (v.in_text c.requires.in_text)))
 
-pub unary-returns-in_err-part : goal.unary-returns-in_err-part
-unary-returns-in_err-part t c =
+pub unary-returns-in_err-part-in-Prefix : goal.unary-returns-in_err-part-in-Prefix
+unary-returns-in_err-part-in-Prefix t c =
     failed 0 _ c.args.text.now c.args.at c.args.self.now c.unary.new.self c.unary.new.slots _
-    c.from-residual-in_err-part.result c.from-residual-in_err-part.ensures.1
+    c.from_residual-in_err-part-in-Prefix.result c.from_residual-in_err-part-in-Prefix.ensures.1
     (prefix_then _ _ _ _ c.look-seen.ensures.value _ c.in-Prefix.ensures (omega arith) _
-    (sym c.in_ok-prefixed.ensures) _ c.in_err-part.ensures)
+    (sym c.in_ok-prefixed-in-Prefix.ensures) _ c.in_err-part-in-Prefix.ensures)
 
 pub unary-push-requires-in-Prefix : goal.unary-push-requires-in-Prefix
 unary-push-requires-in-Prefix t c =
     let v = c.look-seen.ensures in
     let lt = prefix_reads v _ c.in-Prefix.ensures in
     let g =
-    prefix_ok c.args.text.now c.look-seen.result.next c.in-Prefix.operator c.in_ok-prefixed.prefixed
-    (sym c.in_ok-prefixed.ensures) in
-    room_behind c.requires (opened (omega (arith, v.after, g.after)) c.in_ok-part.ensures.1)
+    prefix_ok c.args.text.now c.look-seen.result.next c.in-Prefix.operator c.in_ok-prefixed-in-Prefix.prefixed
+    (sym c.in_ok-prefixed-in-Prefix.ensures) in
+    room_behind c.requires (opened (omega (arith, v.after, g.after)) c.in_ok-part-in-Prefix.ensures.1)
 
 pub unary-returns-then-left-eq0-2 : goal.unary-returns-then-left-eq0-2
 unary-returns-then-left-eq0-2 t c =
     group_full _ _ _ _ c.look-seen.ensures.value c.in-Group.ensures c.if-left-eq0-2.true
     ∙ ap stop (sym c.too_deep-then-left-eq0-2.ensures)
 
-pub unary-returns-in_err-part-2 : goal.unary-returns-in_err-part-2
-unary-returns-in_err-part-2 t c =
+pub unary-returns-in_err-part-in-Group : goal.unary-returns-in_err-part-in-Group
+unary-returns-in_err-part-in-Group t c =
     failed 0 _ c.args.text.now c.args.at c.args.self.now c.arrow.new.self c.arrow.new.slots _
-    c.from-residual-in_err-part-2.result c.from-residual-in_err-part-2.ensures.1
-    (group_then _ _ _ _ c.look-seen.ensures.value c.in-Group.ensures (omega arith) _ c.in_err-part-2.ensures)
+    c.from_residual-in_err-part-in-Group.result c.from_residual-in_err-part-in-Group.ensures.1
+    (group_then _ _ _ _ c.look-seen.ensures.value c.in-Group.ensures (omega arith) _ c.in_err-part-in-Group.ensures)
 
 pub unary-returns-then-not-is_symbol : goal.unary-returns-then-not-is_symbol
 unary-returns-then-not-is_symbol t c =
     group_closed _ _ _ _ c.look-seen.ensures.value c.in-Group.ensures (omega arith) _ _
-    c.in_ok-part-2.ensures.0 _
+    c.in_ok-part-in-Group.ensures.0 _
     c.look-close.ensures.value _ c.if-not-is_symbol.ensures ∙ ap stop (sym c.misplaced-then-not-is_symbol.ensures)
 
 pub unary-returns-in-Wrong : goal.unary-returns-in-Wrong
@@ -209,15 +209,15 @@ unary-returns-in-Variable t c =
     c.variable.result in
     subst P (sym (unary_is _ _ _ _ c.look-seen.ensures.value head.Variable c.in-Variable.ensures)) c.variable.ensures
 
-pub unary-returns-in_ok-part : goal.unary-returns-in_ok-part
-unary-returns-in_ok-part t c =
+pub unary-returns-in_ok-part-in-Prefix : goal.unary-returns-in_ok-part-in-Prefix
+unary-returns-in_ok-part-in-Prefix t c =
     let v = c.look-seen.ensures in
     let e = c.in-Prefix.ensures in
     let lt = prefix_reads v _ e in
-    let h = sym c.in_ok-prefixed.ensures in
-    let g = prefix_ok c.args.text.now c.look-seen.result.next c.in-Prefix.operator c.in_ok-prefixed.prefixed h in
-    let on : c.args.at < c.in_ok-prefixed.prefixed.next = omega (arith, v.after, g.after, lt) in
-    let d = c.in_ok-part.ensures in (
+    let h = sym c.in_ok-prefixed-in-Prefix.ensures in
+    let g = prefix_ok c.args.text.now c.look-seen.result.next c.in-Prefix.operator c.in_ok-prefixed-in-Prefix.prefixed h in
+    let on : c.args.at < c.in_ok-prefixed-in-Prefix.prefixed.next = omega (arith, v.after, g.after, lt) in
+    let d = c.in_ok-part-in-Prefix.ensures in (
       prefix_then _ _ _ _ v.value _ e (omega arith) _ h _ d.0 ∙ unary_good on d.1 c.push-in-Prefix.ensures,
       unary_went on d.1 c.push-in-Prefix.ensures,
     )
@@ -225,7 +225,7 @@ unary-returns-in_ok-part t c =
 pub unary-returns-else-not-is_symbol : goal.unary-returns-else-not-is_symbol
 unary-returns-else-not-is_symbol t c =
     let v = c.look-seen.ensures in
-    let d = c.in_ok-part-2.ensures in
+    let d = c.in_ok-part-in-Group.ensures in
     let y = c.look-close.ensures in
     let e = c.in-Group.ensures in
     let f = c.if-not-is_symbol.ensures in (

@@ -14,14 +14,14 @@ arrow-requires c =
 pub returns-in_err-part : goal.returns-in_err-part
 returns-in_err-part c =
     failed 1 _ c.args.text.now c.args.at c.args.self.now c.arrow.new.self c.arrow.new.slots _
-    c.from-residual.result
-    c.from-residual.ensures.1 (formula_then _ _ _ c.skip_lines-begin.ensures _ c.in_err-part.ensures)
+    c.from_residual.result
+    c.from_residual.ensures.1 (formula_then _ _ _ c.skip_lines-begin.ensures _ c.in_err-part.ensures)
 
 pub returns-in_err-next : goal.returns-in_err-next
 returns-in_err-next c =
     failed 1 _ c.args.text.now c.args.at c.args.self.now c.arrow.new.self c.arrow.new.slots _
-    c.from-residual-in_err-next.result
-    c.from-residual-in_err-next.ensures.1
+    c.from_residual-in_err-next.result
+    c.from_residual-in_err-next.ensures.1
     (formula_ended _ _ _ c.skip_lines-begin.ensures _ _ c.in_ok-part.ensures.0 _ c.in_err-next.ensures)
 
 pub returns : goal.returns

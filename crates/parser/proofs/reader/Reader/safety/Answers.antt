@@ -10,8 +10,8 @@ use Rattle.parser.proofs.reader.Reader.safety.Goals as goal
 pub returns-in_err-part : goal.returns-in_err-part
 returns-in_err-part c =
     failed 1 _ c.args.text.now c.args.at c.args.self.now c.formula.new.self c.formula.new.slots _
-    c.from-residual.result
-    c.from-residual.ensures.1 (safety_then _ _ _ c.in_err-part.ensures)
+    c.from_residual.result
+    c.from_residual.ensures.1 (safety_then _ _ _ c.in_err-part.ensures)
 
 pub returns-then-third_begins : goal.returns-then-third_begins
 returns-then-third_begins c =
@@ -26,9 +26,9 @@ pub returns-in_err-line : goal.returns-in_err-line
 returns-in_err-line c =
     let d = c.in_ok-part.ensures in
     let i = c.loop-i.invariant in
-    failed 1 _ c.args.text.now c.args.at c.args.self.now c.formula_in-loop-i.new.self
-    c.formula_in-loop-i.new.slots _
-    c.from-residual-in_err-line.result c.from-residual-in_err-line.ensures.1
+    failed 1 _ c.args.text.now c.args.at c.args.self.now c.formula-in-loop-i.new.self
+    c.formula-in-loop-i.new.slots _
+    c.from_residual-in_err-line.result c.from_residual-in_err-line.ensures.1
     (safety_then _ _ _ d.0 ∙ i.0
     ∙ lines_then _ _ _ _ _ c.skip_lines-begin.ensures c.if-third_begins.ensures (omega (arith, c.loop-i-test.true)) _
     c.in_err-line.ensures)

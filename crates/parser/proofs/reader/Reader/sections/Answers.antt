@@ -20,7 +20,7 @@ behind_header text v w slots s at n r e =
 
 pub returns-in_err-first : goal.returns-in_err-first
 returns-in_err-first c =
-    refuses _ c.args.self.now _ c.from-residual.result c.from-residual.ensures.1
+    refuses _ c.args.self.now _ c.from_residual.result c.from_residual.ensures.1
     (first_read _ _ c.in_err-first.ensures)
 
 pub formula-requires : goal.formula-requires
@@ -29,13 +29,13 @@ formula-requires c =
 
 pub returns-in_err-initial : goal.returns-in_err-initial
 returns-in_err-initial c =
-    refuses _ c.formula.new.self _ c.from-residual-in_err-initial.result c.from-residual-in_err-initial.ensures.1
+    refuses _ c.formula.new.self _ c.from_residual-in_err-initial.result c.from_residual-in_err-initial.ensures.1
     (formula_read _ _ c.in_ok-first.ensures _ (begins c.args.self.now _ c.requires.1) _
     c.in_err-initial.ensures)
 
 pub returns-in_err-second : goal.returns-in_err-second
 returns-in_err-second c =
-    refuses _ c.formula.new.self _ c.from-residual-in_err-second.result c.from-residual-in_err-second.ensures.1
+    refuses _ c.formula.new.self _ c.from_residual-in_err-second.result c.from_residual-in_err-second.ensures.1
     (second_read _ _ c.in_ok-first.ensures _ (begins c.args.self.now _ c.requires.1) _ _
     c.in_ok-initial.ensures.0 _ c.in_err-second.ensures)
 
@@ -49,15 +49,15 @@ safety-requires c =
 
 pub returns-in_err-safety : goal.returns-in_err-safety
 returns-in_err-safety c =
-    refuses _ c.safety.new.self _ c.from-residual-in_err-safety.result c.from-residual-in_err-safety.ensures.1
+    refuses _ c.safety.new.self _ c.from_residual-in_err-safety.result c.from_residual-in_err-safety.ensures.1
     (safety_read _ _ c.in_ok-first.ensures _ (begins c.args.self.now _ c.requires.1) _ _
     c.in_ok-initial.ensures.0
     _ c.in_ok-second.ensures _ c.in_err-safety.ensures)
 
 pub returns-in_err-third_section : goal.returns-in_err-third_section
 returns-in_err-third_section c =
-    refuses _ c.safety.new.self _ c.from-residual-in_err-third_section.result
-    c.from-residual-in_err-third_section.ensures.1
+    refuses _ c.safety.new.self _ c.from_residual-in_err-third_section.result
+    c.from_residual-in_err-third_section.ensures.1
     (third_read _ _ c.in_ok-first.ensures _ (begins c.args.self.now _ c.requires.1) _ _
     c.in_ok-initial.ensures.0
     _ c.in_ok-second.ensures _ _ c.in_ok-safety.ensures.0 _ c.skip_lines-third.ensures _
