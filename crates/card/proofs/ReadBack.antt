@@ -1,17 +1,15 @@
 -- What is written is read back as the same card.
-use Rattle.std.proofs.Common.{◌≡◌, ℕ, zero, suc, ◌+◌, ◌-◌, ◌*◌, ◌/◌, ◌%◌, ◌<◌, ◌≤◌, Bool, true, false, eqb, leb, List, [], ◌∷◌, ◌++◌, length, get_or, Some, None, Ok, Err, Option, sym, refl, ap, ◌∙◌, add-zero, mul-zero, mul-suc, arith}
+use Rattle.std.proofs.Common.{◌≡◌, ℕ, zero, suc, ◌+◌, ◌*◌, ◌/◌, ◌%◌, ◌<◌, Bool, true, false, leb, List, [], ◌∷◌, ◌++◌, length, get_or, None, Option, sym, refl, ap, ◌∙◌, add-zero, mul-zero, mul-suc, arith}
 use native.Mathlib.Nat.{mod-add-div'}
 use Rattle.std.specs.List.{flat_map}
 use Rattle.std.proofs.lemmas.List.{append_assoc, length-append, get_or_at}
-use Rattle.std.proofs.lemmas.Bool.{eq-eqb, le-leb, leb-true, and_from, and_parts}
+use Rattle.std.proofs.lemmas.Bool.{leb-true, and_parts}
 use Rattle.records.specs.declared.FormulaRecord.{FormulaRecord}
 use Rattle.records.specs.declared.NodeRecord.{NodeRecord}
 use Rattle.records.specs.declared.MoveRecord.{MoveRecord}
 use Rattle.records.specs.Raw.{RawCard}
 use Rattle.card.specs.Limits.{unless, formulas_right, labels_right, nodes_right, moves_right, kind_right, wrong_count, Bounded}
 use Rattle.card.specs.Layout.{word_at, formula_at, node_at, move_at, entries, word_bytes, formula_bytes, node_bytes, move_bytes}
-use Rattle.card.specs.Trailer.{labels_from, nodes_from, moves_from, field, wrong_field, card_in, read_card, read_by, read_file}
-use Rattle.card.specs.Written.{trailer_of, card_bytes, byte_count}
 
 -- ── one record ──
 -- a byte, and a word, behind some bytes

@@ -1,12 +1,12 @@
 -- The file of a whole card: its length, its trailer, what is read from it, and how it is written list by list.
-use Rattle.std.proofs.Common.{◌≡◌, ℕ, ◌+◌, ◌-◌, ◌*◌, ◌<◌, ◌≤◌, Bool, true, false, eqb, leb, List, [], ◌∷◌, ◌++◌, length, get_or, take, drop, Some, None, Ok, Err, sym, refl, ap, ◌∙◌, arith, lit<}
+use Rattle.std.proofs.Common.{◌≡◌, ℕ, ◌+◌, ◌-◌, ◌*◌, ◌<◌, ◌≤◌, eqb, leb, List, [], ◌++◌, length, get_or, take, drop, None, Ok, Err, sym, refl, ap, ◌∙◌, arith, lit<}
 use Rattle.std.specs.List.{flat_map}
 use Rattle.std.proofs.lemmas.List.{append_assoc, length-append, take_at}
 use Rattle.std.proofs.lemmas.Bool.{eq-eqb, le-leb, and_from, cond-true}
 use Rattle.faults.specs.declared.Buffer.TheVariants.{Output}
 use Rattle.faults.specs.declared.card.CardFault.TheVariants.{Short}
 use Rattle.records.specs.Raw.{RawCard}
-use Rattle.card.specs.Limits.{formulas_right, labels_right, nodes_right, moves_right, kind_right, wrong_count, Bounded}
+use Rattle.card.specs.Limits.{formulas_right, labels_right, nodes_right, moves_right, kind_right, wrong_count}
 use Rattle.card.specs.Layout.{word_at, formula_at, node_at, move_at, entries, word_bytes, formula_bytes, node_bytes, move_bytes}
 use Rattle.card.specs.Trailer.{labels_from, nodes_from, moves_from, field, wrong_field, card_in, read_card, read_by, read_file}
 use Rattle.card.specs.Written.{trailer_of, card_bytes, byte_count, written_by, written, put_at}

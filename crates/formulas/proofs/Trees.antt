@@ -1,9 +1,9 @@
 -- Entries and their trees: in a list without doubles, equal trees are of equal entries.
-use Rattle.std.proofs.Common.{◌≡◌, ℕ, zero, suc, ◌+◌, ◌<◌, ◌≤◌, Bool, true, false, cond, ◌&&◌, ltb, List, [], ◌∷◌, ◌++◌, length, get_or, Some, None, sym, refl, ap, ◌∙◌, subst, arith}
+use Rattle.std.proofs.Common.{◌≡◌, ℕ, zero, suc, ◌+◌, ◌<◌, ◌≤◌, Bool, true, false, cond, ◌&&◌, ltb, List, [], ◌∷◌, ◌++◌, length, get_or, Some, sym, refl, ap, ◌∙◌, subst, arith}
 use Rattle.std.specs.List.{slice_get}
 use Rattle.std.proofs.lemmas.Bool.{and_parts, and_from, ltb-true, lt-ltb}
 use Rattle.std.proofs.lemmas.Option.{slice_get-get_or}
-use Rattle.temporal.specs.Formula.{Formula as Tree, bot, top, lit, conj, disj, next, always, eventually, same}
+use Rattle.temporal.specs.Formula.{Formula as Tree, bot, conj, disj, next, always, eventually, same}
 use Rattle.temporal.specs.Parts.{◌∈◌, Once}
 use Rattle.temporal.proofs.Lists.{at_member, place, cast}
 use Rattle.temporal.proofs.Same.{same_sound, same_refl}

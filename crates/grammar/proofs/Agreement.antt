@@ -1,5 +1,5 @@
 -- Two texts with the same tokens up to a place, read side by side.
-use Rattle.std.proofs.Common.{◌≡◌, ℕ, zero, suc, ◌+◌, ◌-◌, ◌<◌, ◌≤◌, Bool, true, false, cond, ◌&&◌, ◌||◌, ltb, ◌⊎◌, List, [], length, Some, None, Ok, Err, codes, Option, Result, sym, refl, ap, ◌∙◌, subst, inl, inr, ⊎_elim, arith}
+use Rattle.std.proofs.Common.{◌≡◌, ℕ, zero, suc, ◌+◌, ◌<◌, ◌≤◌, Bool, true, false, ◌&&◌, ◌||◌, ltb, ◌⊎◌, List, [], length, Some, None, Ok, Err, codes, Option, Result, sym, refl, ap, ◌∙◌, subst, inl, inr, ⊎_elim, arith}
 use Rattle.std.specs.Str.{bytes_eq}
 use Rattle.std.proofs.lemmas.Bool.{cond-true, cond-false, cond_both, and_parts, and_left, cases_lt, cases_eq, cases_Bool}
 use Rattle.faults.specs.declared.Reason.TheVariants as reason
@@ -10,7 +10,7 @@ use Rattle.lexer.specs.declared.token.Lexeme.{Lexeme}
 use Rattle.lexer.specs.declared.token.Operator.TheVariants as operator
 use Rattle.lexer.specs.declared.token.Symbol.{Symbol}
 use Rattle.lexer.specs.declared.token.Symbol.TheVariants as symbol
-use Rattle.lexer.specs.Bounds.{then_ok, outside, sign_of, sign_in, bounded, number_in, bound_after, bound_from, bound_in, range_from, range_in}
+use Rattle.lexer.specs.Bounds.{then_ok, outside, sign_of, sign_in, bounded, number_in, bound_after, bound_from, bound_in, range_in}
 use Rattle.lexer.specs.Lexer.{look_at}
 use Rattle.lexer.specs.Tokens.{is_symbol, is_line, is_end, number_of}
 use Rattle.names.specs.Words.{name_of}

@@ -1,5 +1,5 @@
 -- Blank lines, headers and the third section: what the grammar has and what is read.
-use Rattle.std.proofs.Common.{◌≡◌, ℕ, zero, suc, ◌+◌, ◌<◌, ◌≤◌, Bool, true, false, cond, ◌&&◌, ◌||◌, eqb, ltb, leb, List, [], ◌∷◌, length, get_or, Ok, Err, codes, Result, sym, refl, ap, ◌∙◌, subst, ⊎_elim, arith}
+use Rattle.std.proofs.Common.{◌≡◌, ℕ, zero, suc, ◌+◌, ◌≤◌, Bool, true, false, cond, ◌&&◌, ◌||◌, eqb, ltb, leb, List, [], ◌∷◌, length, get_or, Ok, codes, Result, sym, refl, ap, ◌∙◌, subst, ⊎_elim, arith}
 use Rattle.std.specs.Char.{is_ascii_digit, is_ascii_alphabetic}
 use Rattle.std.specs.Str.{bytes_eq}
 use Rattle.std.proofs.lemmas.Bool.{false≢true, cond-true, cond_both, leb-true, and_parts, and_from, or_cases, or_left, or_right}
@@ -10,7 +10,7 @@ use Rattle.lexer.specs.declared.look.Class.TheVariants.{Letter}
 use Rattle.lexer.specs.Lexer.{part, run, word_token, symbol_token, token_at, look_at}
 use Rattle.lexer.specs.Tokens.{is_line, is_end}
 use Rattle.lexer.proofs.Looks.{look_past, look_next}
-use Rattle.grammar.specs.Sections.{is_word, is_true, is_this, expected, then_at, past_lines, blanks, word_in, line_in, true_in, last_in, end_in, header_in, third_in, third_begins}
+use Rattle.grammar.specs.Sections.{is_true, is_this, then_at, past_lines, blanks, word_in, line_in, true_in, last_in, end_in, header_in, third_in, third_begins}
 use Rattle.grammar.specs.Shows.{Blank, none, line, Words, done, word, Header, Third}
 use Rattle.grammar.proofs.Outcomes.{split_expected, split_then}
 use Rattle.grammar.proofs.Tokens.{word_not_line, true_not_line, end_not_line, line_forward, no_line_past}

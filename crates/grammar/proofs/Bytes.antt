@@ -1,5 +1,5 @@
 -- Two texts with the same bytes up to the end of a token have the same tokens up to and with it.
-use Rattle.std.proofs.Common.{◌≡◌, ℕ, zero, suc, ◌+◌, ◌-◌, ◌<◌, ◌≤◌, Bool, true, false, cond, ◌&&◌, eqb, leb, ◌⊎◌, List, [], ◌∷◌, length, get_or, take, drop, sym, refl, ap, ◌∙◌, subst, inl, inr, ⊎_elim, arith, take_all}
+use Rattle.std.proofs.Common.{◌≡◌, ℕ, zero, suc, ◌+◌, ◌-◌, ◌<◌, ◌≤◌, Bool, true, false, cond, ◌&&◌, eqb, leb, List, [], ◌∷◌, length, get_or, take, drop, sym, refl, ap, ◌∙◌, subst, ⊎_elim, arith, take_all}
 use Rattle.std.specs.Char.{is_ascii_digit, is_ascii_alphabetic}
 use Rattle.std.specs.List.{prefix_len}
 use Rattle.std.proofs.lemmas.List.{take-take, drop-take, drop-drop, get_or-take}
@@ -11,7 +11,7 @@ use Rattle.lexer.specs.declared.token.Lexeme.{Lexeme}
 use Rattle.lexer.specs.declared.token.Symbol.TheVariants as symbol
 use Rattle.lexer.specs.declared.token.Token.{Token}
 use Rattle.lexer.specs.declared.token.Token.TheVariants as token
-use Rattle.lexer.specs.Lexer.{is_in, run, part, word_token, numeral, symbol_token, symbol_length, lexeme, word_at, number_at, signed, sign_at, token_at, look_at}
+use Rattle.lexer.specs.Lexer.{is_in, run, part, word_token, numeral, symbol_token, lexeme, word_at, number_at, signed, sign_at, token_at, look_at}
 use Rattle.lexer.specs.Tokens.{is_end}
 use Rattle.lexer.proofs.Looks.{look_after, look_from_next, look_longer, look_past, look_in_text, symbol_long, signed_is}
 use Rattle.grammar.specs.Refusals.{SameUpTo}

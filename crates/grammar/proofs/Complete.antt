@@ -1,7 +1,6 @@
 -- What the grammar shows, up to a token that cannot go on with it, is what is read.
-use Rattle.std.proofs.Common.{◌≡◌, ℕ, zero, suc, ◌+◌, ◌<◌, ◌≤◌, Bool, true, false, cond, ltb, List, length, Ok, sym, refl, ap, ◌∙◌, subst, arith}
+use Rattle.std.proofs.Common.{◌≡◌, ℕ, zero, suc, ◌+◌, ◌<◌, ◌≤◌, Bool, true, false, ltb, List, length, Ok, sym, ap, ◌∙◌, arith}
 use Rattle.std.proofs.lemmas.Bool.{cond-true, lt-ltb}
-use Rattle.lexer.specs.declared.token.Symbol.{Symbol}
 use Rattle.lexer.specs.declared.token.Symbol.TheVariants as symbol
 use Rattle.lexer.specs.declared.token.Token.{Token}
 use Rattle.lexer.specs.Lexer.{look_at}
@@ -15,14 +14,14 @@ use Rattle.nodes.specs.Trees.{constant_of, join, apply}
 use Rattle.grammar.specs.declared.head.Head.TheVariants as head
 use Rattle.grammar.specs.declared.head.Prefixed.{Prefixed}
 use Rattle.grammar.specs.declared.head.Unary.{Unary}
-use Rattle.grammar.specs.Grammar.{head_of, symbol_of, State, moved, Out, good, stop, Parser, and_then, Inside, implication_in, word_name, prefix_in, prefixed, named, closed, begun}
-use Rattle.grammar.specs.Grammar.{unary_by, more, chain_by, arrowed, arrow_by, operand_by, inside}
+use Rattle.grammar.specs.Grammar.{head_of, symbol_of, State, moved, good, Parser, and_then, Inside, word_name, prefix_in, prefixed, named, closed}
+use Rattle.grammar.specs.Grammar.{more, chain_by, arrowed, arrow_by, operand_by, inside}
 use Rattle.grammar.specs.Numbering.{rank, extended, variable_of}
-use Rattle.grammar.specs.Shows.{Level, unary, up_to, operand_level, Shows}
+use Rattle.grammar.specs.Shows.{Level, unary, up_to, Shows}
 use Rattle.grammar.specs.Shows.{shows_constant, shows_variable, shows_unary, shows_group, shows_operand, shows_and, shows_or, shows_implies, shows_equivalent}
 use Rattle.grammar.proofs.Ranges.{bounds_complete}
 use Rattle.grammar.proofs.Prefixes.{prefix_ok}
-use Rattle.grammar.proofs.Steps.{level_at, unary_is, closed_is, turn_by, more_is, more_ends, chain_is, arrowed_by, arrowed_is, arrow_is}
+use Rattle.grammar.proofs.Steps.{level_at, unary_is, closed_is, more_is, more_ends, chain_is, arrowed_is, arrow_is}
 use Rattle.grammar.proofs.Tokens.{one_symbol, line_not_symbol, symbol_forward, no_symbol_past}
 
 -- a formula ends where it begins or later

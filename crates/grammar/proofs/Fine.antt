@@ -1,5 +1,5 @@
 -- What is derived has variables below their counts and bounds in their ranges.
-use Rattle.std.proofs.Common.{◌≡◌, ℕ, zero, suc, ◌+◌, ◌<◌, ◌≤◌, Bool, true, false, ◌⊎◌, List, [], length, sym, refl, ap, ◌∙◌, subst, inl, inr, arith}
+use Rattle.std.proofs.Common.{◌≡◌, ℕ, ◌≤◌, Bool, true, false, List, [], length, sym, ap, subst, inl, inr, arith}
 use Rattle.lexer.specs.Lexer.{look_at}
 use Rattle.names.specs.declared.Name.{Name}
 use Rattle.temporal.specs.Formula.{Numbered}
@@ -7,10 +7,10 @@ use Rattle.temporal.specs.Written.{Written, falsity, truth, variable, negation, 
 use Rattle.nodes.specs.declared.node.Prefix.{Prefix}
 use Rattle.nodes.specs.declared.node.Prefix.TheVariants as prefix
 use Rattle.nodes.specs.Trees.{constant_of, apply}
-use Rattle.grammar.specs.Grammar.{State, moved}
+use Rattle.grammar.specs.Grammar.{State}
 use Rattle.grammar.specs.Numbering.{environment_names, system_names}
 use Rattle.grammar.specs.Sections.{Contents}
-use Rattle.grammar.specs.Shows.{Level, unary, up_to, Shows, Line, Lines, first, further, Derives, FineContents, DerivedFormulasAreFine}
+use Rattle.grammar.specs.Shows.{Level, Shows, Line, Lines, first, further, Derives, FineContents, DerivedFormulasAreFine}
 use Rattle.grammar.specs.Shows.{shows_constant, shows_variable, shows_unary, shows_group, shows_operand, shows_and, shows_or, shows_implies, shows_equivalent}
 use Rattle.grammar.proofs.Names.{Few, Grown, grown_same, grown_both, grown_extended, few_extended, numbered_extended}
 use Rattle.grammar.proofs.Ranges.{bounds_complete}

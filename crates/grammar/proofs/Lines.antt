@@ -1,5 +1,5 @@
 -- Formula lines: what the grammar has and what is read.
-use Rattle.std.proofs.Common.{◌≡◌, ℕ, zero, suc, ◌+◌, ◌<◌, ◌≤◌, Bool, true, false, ◌&&◌, ◌⊎◌, List, length, codes, sym, refl, ap, ◌∙◌, subst, inl, inr, ⊎_elim, arith}
+use Rattle.std.proofs.Common.{◌≡◌, ℕ, zero, suc, ◌+◌, ◌<◌, ◌≤◌, Bool, true, false, ◌⊎◌, List, length, codes, sym, refl, ap, ◌∙◌, inl, inr, ⊎_elim, arith}
 use Rattle.std.proofs.lemmas.Bool.{false≢true, and_parts, and_left, and_right, cases_Bool, cases_lt}
 use Rattle.lexer.specs.declared.token.Symbol.{Symbol}
 use Rattle.lexer.specs.declared.token.Symbol.TheVariants as symbol
@@ -10,16 +10,16 @@ use Rattle.temporal.specs.Written.{Written, conjunction}
 use Rattle.nodes.specs.declared.node.Connective.TheVariants as connective
 use Rattle.grammar.specs.declared.head.Head.{Head}
 use Rattle.grammar.specs.declared.head.Head.TheVariants as head
-use Rattle.grammar.specs.Grammar.{head_of, State, moved, Out, good, stop, and_then}
+use Rattle.grammar.specs.Grammar.{head_of, State, moved, Out, good, and_then}
 use Rattle.grammar.specs.Sections.{is_word, is_this, ended, blanks, line_in, third_begins, formula_in, lines_in, safety_in}
-use Rattle.grammar.specs.Shows.{Level, unary, up_to, Shows, Line, Lines, first, further}
+use Rattle.grammar.specs.Shows.{Level, up_to, Shows, Line, Lines, first, further}
 use Rattle.grammar.specs.Shows.{shows_constant, shows_variable, shows_unary, shows_group, shows_operand, shows_and, shows_or, shows_implies, shows_equivalent}
 use Rattle.grammar.proofs.Blanks.{blanks_sound, blanks_complete, blank_forward, line_sound, line_ok}
 use Rattle.grammar.proofs.Complete.{forward, complete, line_ends}
 use Rattle.grammar.proofs.Outcomes.{carried, split_out, split_ended}
 use Rattle.grammar.proofs.Sound.{sound}
 use Rattle.grammar.proofs.Steps.{level_at}
-use Rattle.grammar.proofs.Tokens.{right_head, head_not_line, symbol_not_word, line_not_word, word_begins, line_forward, no_line_past}
+use Rattle.grammar.proofs.Tokens.{head_not_line, symbol_not_word, line_not_word, word_begins, line_forward, no_line_past}
 
 -- a head that is a variable is no other
 abbrev variable_head : Head → Bool

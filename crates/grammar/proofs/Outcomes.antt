@@ -1,5 +1,5 @@
 -- Outcomes of reading: what follows from a good one, and how a good one was composed.
-use Rattle.std.proofs.Common.{◌≡◌, ℕ, Bool, true, false, cond, Ok, Err, Result, sym, refl, ap, ◌∙◌, subst, arith}
+use Rattle.std.proofs.Common.{◌≡◌, ℕ, Bool, true, false, cond, Ok, Err, Result, refl, subst, arith}
 use Rattle.faults.specs.declared.TextFault.{TextFault}
 use Rattle.lexer.specs.declared.token.Lexeme.{Lexeme}
 use Rattle.temporal.specs.Written.{Written}

@@ -1,5 +1,5 @@
 -- What the bounds behind a unary operator keep: they move on, stay in the text, and lie in their ranges.
-use Rattle.std.proofs.Common.{◌≡◌, ℕ, ◌≤◌, List, length, Ok, Err, Result, sym, refl, ap, ◌∙◌, subst, arith}
+use Rattle.std.proofs.Common.{◌≡◌, ℕ, ◌≤◌, List, length, Ok, Err, Result, arith}
 use Rattle.faults.specs.declared.TextFault.{TextFault}
 use Rattle.lexer.specs.declared.bounds.Bound.{Bound}
 use Rattle.lexer.specs.declared.bounds.Range.{Range}

@@ -1,6 +1,6 @@
 -- Bounds behind unary operators: what the grammar has and what is read.
-use Rattle.std.proofs.Common.{◌≡◌, ℕ, ◌≤◌, Bool, true, false, cond, List, Some, None, Ok, Err, Option, Result, sym, refl, ap, ◌∙◌, subst, ⊎_elim, arith}
-use Rattle.std.proofs.lemmas.Bool.{cond-true, cond-false, cases_Bool, or_from, le-ltb}
+use Rattle.std.proofs.Common.{◌≡◌, ℕ, ◌≤◌, Bool, true, false, List, Some, None, Ok, Err, Option, Result, sym, refl, ap, ◌∙◌, subst, arith}
+use Rattle.std.proofs.lemmas.Bool.{cond-true, cond-false, or_from, le-ltb}
 use Rattle.faults.specs.declared.TextFault.{TextFault}
 use Rattle.lexer.specs.declared.bounds.Bound.{Bound}
 use Rattle.lexer.specs.declared.bounds.Range.{Range}
@@ -8,7 +8,7 @@ use Rattle.lexer.specs.declared.token.Lexeme.{Lexeme}
 use Rattle.lexer.specs.declared.token.Operator.TheVariants as temporal
 use Rattle.lexer.specs.declared.token.Symbol.{Symbol}
 use Rattle.lexer.specs.declared.token.Symbol.TheVariants as symbol
-use Rattle.lexer.specs.Bounds.{then_ok, outside, sign_of, sign_in, bounded, number_in, bound_after, bound_from, bound_in, range_in}
+use Rattle.lexer.specs.Bounds.{then_ok, outside, sign_of, sign_in, bounded, number_in, bound_after, bound_in, range_in}
 use Rattle.lexer.specs.Lexer.{look_at}
 use Rattle.lexer.specs.Tokens.{is_symbol, number_of}
 use Rattle.lexer.proofs.Limits.{bound_ok, range_ok}

@@ -1,10 +1,9 @@
 -- The reader's form of a text is exactly what the grammar derives.
-use Rattle.std.proofs.Common.{◌≡◌, ℕ, ◌≤◌, Bool, true, false, cond, ltb, List, [], length, Ok, codes, Result, sym, refl, ap, ◌∙◌, subst, arith}
+use Rattle.std.proofs.Common.{◌≡◌, ℕ, ◌≤◌, Bool, true, false, cond, ltb, List, [], length, codes, sym, refl, ap, ◌∙◌, subst}
 use Rattle.std.proofs.lemmas.Bool.{ltb-false, le-ltb, cond-false}
 use Rattle.faults.specs.declared.TextFault.{TextFault}
-use Rattle.names.specs.declared.Name.{Name}
 use Rattle.temporal.specs.Written.{Written}
-use Rattle.grammar.specs.Grammar.{State, Out, good}
+use Rattle.grammar.specs.Grammar.{State}
 use Rattle.grammar.specs.Sections.{Contents, Form, formed, refused, or_refused, out_or_refused, blanks, header_in, third_in, formula_in, safety_in, sections_of, form_of}
 use Rattle.grammar.specs.Shows.{Derives, ReadsWhatIsDerived, DerivationIsUnique}
 use Rattle.grammar.proofs.Blanks.{header_sound, header_complete, third_sound, third_complete, third_begins_lem}

@@ -1,5 +1,5 @@
 -- What is read is what the grammar shows.
-use Rattle.std.proofs.Common.{◌≡◌, ℕ, zero, suc, ◌<◌, Bool, true, false, cond, ltb, List, length, Ok, Err, Result, sym, refl, ap, ◌∙◌, subst, arith}
+use Rattle.std.proofs.Common.{◌≡◌, ℕ, zero, suc, Bool, true, false, ltb, List, length, Ok, Err, Result, sym, refl, ◌∙◌}
 use Rattle.std.proofs.lemmas.Bool.{ltb-true}
 use Rattle.faults.specs.declared.TextFault.{TextFault}
 use Rattle.lexer.specs.declared.token.Symbol.TheVariants as symbol
@@ -13,14 +13,14 @@ use Rattle.grammar.specs.declared.head.Head.{Head}
 use Rattle.grammar.specs.declared.head.Head.TheVariants as head
 use Rattle.grammar.specs.declared.head.Prefixed.{Prefixed}
 use Rattle.grammar.specs.declared.head.Unary.{Unary}
-use Rattle.grammar.specs.Grammar.{head_of, symbol_of, State, moved, Out, good, stop, Parser, and_then, Inside, word_name, prefix_in, prefixed, behind, closed, begun}
-use Rattle.grammar.specs.Grammar.{unary_by, more, chain_by, arrowed, arrow_by, operand_by, inside}
+use Rattle.grammar.specs.Grammar.{head_of, symbol_of, State, moved, good, Parser, word_name, prefix_in, prefixed, behind, closed, begun}
+use Rattle.grammar.specs.Grammar.{unary_by, more, chain_by, arrowed, operand_by, inside}
 use Rattle.grammar.specs.Numbering.{rank}
-use Rattle.grammar.specs.Shows.{Level, unary, up_to, operand_level, Shows}
+use Rattle.grammar.specs.Shows.{Level, unary, up_to, Shows}
 use Rattle.grammar.specs.Shows.{shows_constant, shows_variable, shows_unary, shows_group, shows_operand, shows_and, shows_or, shows_implies, shows_equivalent}
 use Rattle.grammar.proofs.Ranges.{bounds_sound}
 use Rattle.grammar.proofs.Outcomes.{carried, never_good, split_out, split_test}
-use Rattle.grammar.proofs.Steps.{level_at, unary_is, closed_by, closed_is, turn_by, more_is, chain_is, arrowed_by, arrowed_is, arrow_is}
+use Rattle.grammar.proofs.Steps.{level_at, unary_is, closed_by, turn_by, chain_is, arrowed_by, arrow_is}
 
 -- chains: S is what operands show, C what the chain shows
 module _ (text : List ℕ) (c : Connective) (operand : Parser) (S C : State → State → Written → Type 0)

@@ -1,5 +1,5 @@
 -- The steps of the descent, one at a time.
-use Rattle.std.proofs.Common.{◌≡◌, ℕ, zero, suc, Bool, true, false, cond, List, length, sym, refl, ap, ◌∙◌, subst}
+use Rattle.std.proofs.Common.{◌≡◌, ℕ, zero, suc, Bool, true, false, List, length, refl, ap}
 use Rattle.lexer.specs.declared.token.Lexeme.{Lexeme}
 use Rattle.lexer.specs.declared.token.Symbol.TheVariants as symbol
 use Rattle.lexer.specs.Lexer.{look_at}
@@ -9,7 +9,7 @@ use Rattle.nodes.specs.declared.node.Connective.{Connective}
 use Rattle.nodes.specs.declared.node.Connective.TheVariants as connective
 use Rattle.nodes.specs.Trees.{join}
 use Rattle.grammar.specs.declared.head.Head.{Head}
-use Rattle.grammar.specs.Grammar.{head_of, symbol_of, State, moved, Out, good, stop, Parser, and_then, misplaced, Inside, implication_in, closed, begun}
+use Rattle.grammar.specs.Grammar.{head_of, symbol_of, State, moved, Out, good, Parser, and_then, misplaced, Inside, implication_in, closed, begun}
 use Rattle.grammar.specs.Grammar.{unary_by, more, chain_by, arrowed, arrow_by, operand_by, chain_of, arrow_of, inside}
 use Rattle.grammar.specs.Shows.{Level, unary, up_to, operand_level}
 

@@ -1,10 +1,9 @@
 -- The formula that a text holds from a place on, by recursive descent.
-use Rattle.std.specs.Prelude.{ℕ, zero, suc, ◌-◌, Bool, true, false, cond, List, length, Ok, Err, Result, nat_lt}
+use Rattle.std.specs.Prelude.{ℕ, zero, suc, ◌-◌, true, false, cond, List, length, Ok, Err, Result, nat_lt}
 use Rattle.faults.specs.declared.Reason.{Reason}
 use Rattle.faults.specs.declared.Reason.TheVariants as reason
 use Rattle.faults.specs.declared.TextFault.{TextFault}
 use Rattle.lexer.specs.declared.token.Lexeme.{Lexeme}
-use Rattle.lexer.specs.declared.token.Operator.{Operator}
 use Rattle.lexer.specs.declared.token.Operator.TheVariants as operator
 use Rattle.lexer.specs.declared.token.Symbol.{Symbol}
 use Rattle.lexer.specs.declared.token.Symbol.TheVariants as symbol

@@ -1,5 +1,5 @@
 -- The form of a whole text: three sections of lines.
-use Rattle.std.specs.Prelude.{◌≡◌, ℕ, zero, suc, ◌-◌, Bool, true, false, cond, ◌&&◌, ◌||◌, List, [], ◌∷◌, length, Ok, Err, codes, Result, nat_lt}
+use Rattle.std.specs.Prelude.{ℕ, zero, suc, ◌-◌, Bool, true, false, cond, ◌&&◌, ◌||◌, List, [], length, Ok, Err, codes, Result, nat_lt}
 use Rattle.std.specs.Str.{bytes_eq}
 use Rattle.faults.specs.declared.Reason.TheVariants as reason
 use Rattle.faults.specs.declared.TextFault.{TextFault}
@@ -10,7 +10,7 @@ use Rattle.lexer.specs.Lexer.{look_at, part}
 use Rattle.lexer.specs.Tokens.{is_line, is_end, refusal_of}
 use Rattle.names.specs.declared.Name.{Name}
 use Rattle.temporal.specs.Written.{Written, conjunction}
-use Rattle.grammar.specs.Grammar.{State, Out, good, stop, and_then, misplaced, whole_at}
+use Rattle.grammar.specs.Grammar.{State, Out, good, stop, and_then, whole_at}
 
 abbrev pub is_word : Token → Bool
 is_word token.End = false

@@ -1,5 +1,5 @@
 -- A key written into the first free slot from its home, and slots that are all free.
-use Rattle.std.proofs.Common.{◌≡◌, ℕ, zero, suc, ◌+◌, ◌%◌, ◌<◌, ◌≤◌, Bool, true, false, cond, eqb, ◌⊎◌, List, [], ◌∷◌, ◌++◌, map, length, set, Some, sym, refl, ap, ◌∙◌, subst, ⊎_elim, arith, length-append, length-set, eq-eqb, ne_eqb}
+use Rattle.std.proofs.Common.{◌≡◌, ℕ, zero, suc, ◌+◌, ◌%◌, ◌<◌, ◌≤◌, Bool, true, false, cond, eqb, List, [], ◌∷◌, ◌++◌, map, length, set, Some, sym, refl, ap, ◌∙◌, subst, ⊎_elim, arith, length-append, length-set, eq-eqb, ne_eqb}
 use Rattle.std.specs.List.{slice_get}
 use Rattle.index.specs.declared.Slot.{Slot}
 use Rattle.index.specs.Keyed.{place, home, slot_of, free_slot, Held, AllHeld, filled, Reached, Indexed, VacantAt, Inserted, Extends, OneInsertion}

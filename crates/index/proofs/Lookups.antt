@@ -1,5 +1,5 @@
 -- A look-up: its step, what its answer says of the list of keys, and that it has one answer.
-use Rattle.std.proofs.Common.{◌≡◌, ℕ, ◌+◌, ◌<◌, ◌⊎◌, List, length, Some, None, Option, sym, refl, ap, ◌∙◌, ⊎_elim, arith}
+use Rattle.std.proofs.Common.{◌≡◌, ℕ, ◌+◌, ◌<◌, List, length, Some, None, Option, sym, refl, ap, ◌∙◌, ⊎_elim, arith}
 use Rattle.std.specs.List.{slice_get}
 use Rattle.index.specs.declared.Slot.{Slot}
 use Rattle.index.specs.Keyed.{place, home, Held, Passed, Reached, Indexed, NotIn, Found, Hit, FreeAt, Miss, Looked, OneLookup}

@@ -1,5 +1,5 @@
 -- The definitions compute on texts in hand.
-use Rattle.std.proofs.Common.{◌≡◌, ℕ, true, false, List, Ok, Err, codes, refl}
+use Rattle.std.proofs.Common.{◌≡◌, ℕ, List, Ok, codes, refl}
 use Rattle.faults.specs.declared.Reason.TheVariants as reason
 use Rattle.lexer.specs.declared.token.Operator.TheVariants as operator
 use Rattle.lexer.specs.declared.token.Symbol.TheVariants as symbol

@@ -1,11 +1,9 @@
 -- One more entry in the list, and one more number in the memory.
-use Rattle.std.proofs.Common.{◌≡◌, ℕ, zero, suc, ◌+◌, ◌-◌, ◌<◌, ◌≤◌, Bool, true, false, cond, ◌≢◌, ◌⊎◌, List, [], ◌∷◌, ◌++◌, length, get_or, take, drop, set, replicate, Some, None, Option, sym, refl, ap, ◌∙◌, subst, inl, inr, ⊎_elim, arith}
-use mathlib.Core.Bool.{false≢true}
+use Rattle.std.proofs.Common.{◌≡◌, ℕ, zero, suc, ◌+◌, ◌-◌, ◌<◌, ◌≤◌, Bool, true, false, cond, ◌⊎◌, List, [], ◌∷◌, ◌++◌, length, get_or, drop, set, replicate, Some, None, Option, sym, refl, ap, ◌∙◌, subst, inl, inr, ⊎_elim, arith}
 use Rattle.std.specs.List.{slice_get}
 use Rattle.std.proofs.lemmas.Bool.{cases_eq, cases_lt}
 use Rattle.std.proofs.lemmas.List.{take_more_set, length-take-le, length_push, length-set, drop-set-lt, drop-drop, drop-replicate, get_or-set_same, get_or-set_other, set_past}
-use Rattle.std.proofs.lemmas.Option.{slice_get-get_or}
-use Rattle.temporal.specs.Formula.{Formula as Tree, bot}
+use Rattle.temporal.specs.Formula.{Formula as Tree}
 use Rattle.temporal.specs.Parts.{◌∈◌, first, later, member, put, Once}
 use Rattle.temporal.proofs.Tells.{Tells}
 use Rattle.temporal.proofs.Lists.{cast}

@@ -1,13 +1,12 @@
 -- What entering a formula does, from what its parts did.
-use Rattle.std.proofs.Common.{◌≡◌, ℕ, ◌+◌, ◌<◌, ◌≤◌, Bool, true, false, not, ltb, ◌⊎◌, List, [], ◌∷◌, ◌++◌, length, get_or, Some, None, Option, sym, refl, ap, ◌∙◌, subst, inl, inr, arith}
+use Rattle.std.proofs.Common.{◌≡◌, ℕ, ◌<◌, ◌≤◌, Bool, true, false, ltb, List, length, get_or, Some, None, Option, sym, refl, ap, ◌∙◌, subst, inl, inr, arith}
 use Rattle.std.specs.List.{slice_get}
 use Rattle.std.proofs.lemmas.Bool.{and_from, lt-ltb}
-use Rattle.temporal.specs.Formula.{Formula as Tree, bot, top, lit, conj, disj, next, always, eventually, constant}
-use Rattle.temporal.specs.Parts.{◌∈◌, put, enter, Closed}
+use Rattle.temporal.specs.Formula.{Formula as Tree, bot, top, lit, constant}
+use Rattle.temporal.specs.Parts.{put, enter, Closed}
 use Rattle.temporal.proofs.Parts.{put_adds, enter_adds, enter_closed, enter_extends, enter_longer, put_longer}
 use Rattle.nodes.specs.declared.node.Node.{Node}
 use Rattle.formulas.specs.declared.Formula.{Formula}
-use Rattle.formulas.specs.declared.Formula.TheVariants as entry
 use Rattle.formulas.specs.Trees.{grow, parts_below}
 use Rattle.formulas.proofs.Folds.{nth_within, nth_is, nth_more}
 use Rattle.index.specs.declared.Slot.{Slot}

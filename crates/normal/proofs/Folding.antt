@@ -1,5 +1,5 @@
 -- The constant that a normal form is depends on the constants that the parts are.
-use Rattle.std.proofs.Common.{◌≡◌, ℕ, Bool, true, false, not, Some, None, Option, sym, refl, ap, ◌∙◌}
+use Rattle.std.proofs.Common.{◌≡◌, Bool, true, false, Some, None, Option, sym, refl, ap, ◌∙◌}
 use Rattle.temporal.specs.Formula.{Formula, next, always, eventually}
 use Rattle.temporal.specs.Formula.{Kind, is_bot, is_top, other, kind, conjoin_by, disjoin_by, unless_constant}
 use Rattle.temporal.specs.Written.{Written, falsity, truth, variable, negation, later, throughout, within, normal}

@@ -20,7 +20,7 @@ use Rattle.normal.specs.declared.constants.Plan.TheVariants.{Constant, First, Se
 use Rattle.normal.specs.Constants.{known, junction, opposite, plan_of, joint, constant_at}
 use Rattle.normal.specs.Building.{Given, formula_of, operand, signed_by, signed_of}
 use Rattle.normal.specs.Building.{unary_of, binary_of, both_of, neither_of, equivalence_of, operator_of}
-use Rattle.normal.proofs.Folding.{kind_unless, kind_junction, kind_opposite}
+use Rattle.normal.proofs.Folding.{kind_junction, kind_opposite}
 use Rattle.normal.proofs.Places.{parts_below_lem, unary_below, binary_below, tree_at_lem}
 
 -- ── constants ──

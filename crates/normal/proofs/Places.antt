@@ -1,9 +1,9 @@
 -- The nodes at their places: their parts, their trees, their constants.
-use Rattle.std.proofs.Common.{◌≡◌, ℕ, zero, suc, ◌+◌, ◌<◌, ◌≤◌, Bool, true, false, ◌&&◌, ltb, List, [], ◌∷◌, length, get_or, Some, None, Option, sym, refl, ap, ◌∙◌, subst, arith}
+use Rattle.std.proofs.Common.{◌≡◌, ℕ, zero, suc, ◌+◌, ◌<◌, Bool, true, false, ltb, List, [], ◌∷◌, get_or, Some, None, Option, sym, refl, ap, ◌∙◌, subst, arith}
 use Rattle.std.specs.List.{slice_get}
 use Rattle.std.proofs.lemmas.Bool.{and_parts, ltb-true}
-use Rattle.temporal.specs.Formula.{Formula, next, always, eventually, kind}
-use Rattle.temporal.specs.Written.{Written, truth, normal, negation, later, throughout, within}
+use Rattle.temporal.specs.Formula.{next, always, eventually, kind}
+use Rattle.temporal.specs.Written.{Written, truth, normal}
 use Rattle.nodes.specs.declared.node.Node.{Node}
 use Rattle.nodes.specs.declared.node.Node.TheVariants as node
 use Rattle.nodes.specs.declared.node.Prefix.{Prefix}
@@ -13,7 +13,7 @@ use Rattle.nodes.specs.declared.node.Connective.TheVariants as connective
 use Rattle.nodes.specs.Trees.{grow, apply, join, trees_of, parts_below, ordered_from, ordered}
 use Rattle.formulas.proofs.Folds.{Alike, built_at}
 use Rattle.normal.specs.declared.constants.Operator.TheVariants.{And, Or}
-use Rattle.normal.specs.Constants.{known, junction, joint, opposite, under_prefix, under_connective, node_constant, constant_at}
+use Rattle.normal.specs.Constants.{known, junction, joint, under_prefix, under_connective, node_constant, constant_at}
 use Rattle.normal.proofs.Filled.{Filled, filled_at}
 use Rattle.normal.proofs.Folding.{kind_unless, kind_junction, kind_opposite}
 

@@ -1,10 +1,10 @@
 -- The list from its beginning to its end.
-use Rattle.std.proofs.Common.{◌≡◌, ℕ, ◌+◌, ◌-◌, ◌<◌, ◌≤◌, Bool, true, false, List, [], ◌∷◌, length, get_or, take, drop, replicate, Some, None, Option, sym, refl, ap, ◌∙◌, subst, ⊎_elim, arith}
+use Rattle.std.proofs.Common.{◌≡◌, ℕ, ◌-◌, ◌<◌, ◌≤◌, Bool, true, false, List, [], ◌∷◌, length, get_or, take, drop, replicate, Some, None, Option, sym, refl, ap, ◌∙◌, subst, ⊎_elim, arith}
 use Rattle.std.specs.List.{slice_get}
 use Rattle.std.proofs.lemmas.List.{get_or-replicate, get_or_past, length-replicate}
 use Rattle.std.proofs.lemmas.Bool.{cases_lt}
 use Rattle.temporal.specs.Formula.{Formula as Tree, bot, top}
-use Rattle.temporal.specs.Parts.{put, enter, parts_of, Closed}
+use Rattle.temporal.specs.Parts.{put, enter, Closed}
 use Rattle.temporal.proofs.Parts.{constants_closed, enter_longer}
 use Rattle.nodes.specs.declared.node.Node.{Node}
 use Rattle.formulas.specs.declared.Formula.{Formula}
@@ -16,7 +16,7 @@ use Rattle.index.specs.declared.Slot.{Slot}
 use Rattle.index.specs.Keyed.{Indexed}
 use Rattle.normal.specs.declared.builder.Builder.{Builder}
 use Rattle.normal.specs.Building.{listed, Sound, recalled, Added, Adds, formula_of, operand, parts_for}
-use Rattle.normal.specs.Building.{Ready, Entered, Begun, Finished, Listed}
+use Rattle.normal.specs.Building.{Entered, Begun, Finished, Listed}
 use Rattle.normal.specs.declared.table.Formulas.{Formulas}
 use Rattle.normal.specs.Normalized.{parts_in, Lists}
 use Rattle.nodes.specs.declared.syntax.Syntax.{Syntax}

@@ -1,10 +1,9 @@
 -- Blank lines, line ends and the third section's header.
-use Rattle.std.proofs.Common.{◌≡◌, ℕ, zero, suc, ◌+◌, ◌-◌, ◌<◌, ◌≤◌, Bool, true, false, cond, ◌&&◌, List, length, Ok, Err, codes, Result, sym, refl, ap, ◌∙◌, subst, ⊎_elim, arith, rules}
-use Rattle.std.proofs.lemmas.Bool.{cases_Bool, cond-true, cond-false}
+use Rattle.std.proofs.Common.{◌≡◌, ℕ, zero, suc, ◌-◌, ◌<◌, Bool, true, false, ◌&&◌, List, length, Ok, Err, codes, Result, sym, refl, ap, ◌∙◌, subst, ⊎_elim, arith, rules}
+use Rattle.std.proofs.lemmas.Bool.{cases_Bool}
 use Rattle.faults.specs.declared.TextFault.{TextFault}
 use Rattle.lexer.specs.declared.token.Lexeme.{Lexeme}
 use Rattle.lexer.specs.declared.token.Token.{Token}
-use Rattle.lexer.specs.declared.token.Token.TheVariants as token
 use Rattle.lexer.specs.Lexer.{look_at}
 use Rattle.lexer.specs.Tokens.{is_line, is_end}
 use Rattle.lexer.specs.Bounds.{WhenOk}

@@ -1,5 +1,5 @@
 -- What a new node holds: a unary operator before a part, or two parts joined.
-use Rattle.std.proofs.Common.{◌≡◌, ℕ, ◌+◌, ◌-◌, ◌<◌, ◌≤◌, List, length, sym, refl, ap, ◌∙◌, subst, arith}
+use Rattle.std.proofs.Common.{◌≡◌, ℕ, ◌<◌, List, ap, ◌∙◌, arith}
 use Rattle.std.proofs.lemmas.Bool.{lt-ltb}
 use Rattle.index.specs.declared.Slot.{Slot}
 use Rattle.names.specs.declared.Name.{Name}
@@ -13,8 +13,8 @@ use Rattle.grammar.specs.Grammar.{good}
 use Rattle.parser.specs.declared.reader.Reader.{Reader}
 use Rattle.parser.specs.declared.reader.Part.{Part}
 use Rattle.parser.specs.Naming.{names_of}
-use Rattle.parser.specs.Reading.{tree_at, state_at, Ready, Went, Pushed}
-use Rattle.parser.proofs.Moves.{went_earlier, went_both, went_pushed, went_later, below_both, room_behind, good_is}
+use Rattle.parser.specs.Reading.{tree_at, state_at, Went, Pushed}
+use Rattle.parser.proofs.Moves.{went_earlier, went_both, went_pushed, below_both, good_is}
 
 module _ {text : List ℕ} {at from : ℕ} {s s₁ : Reader} {slots : List (Slot Name)} {p : Part} (lt : at < from)
     (w : Went 0 text from s s₁ slots p) where

@@ -1,5 +1,5 @@
 -- Names in a list: which are there, and how many of a kind stand before one.
-use Rattle.std.proofs.Common.{◌≡◌, ℕ, zero, suc, ◌+◌, ◌-◌, ◌<◌, ◌≤◌, min, Bool, true, false, cond, not, ◌&&◌, eqb, ltb, ◌≢◌, ◌⊎◌, List, [], ◌∷◌, ◌++◌, length, get_or, take, drop, set, replicate, Some, None, Option, sym, refl, ap, ◌∙◌, subst, inl, inr, ⊎_elim, arith, length-take, rules}
+use Rattle.std.proofs.Common.{◌≡◌, ℕ, zero, suc, ◌+◌, ◌-◌, ◌<◌, Bool, true, false, cond, eqb, ◌≢◌, ◌⊎◌, List, [], ◌∷◌, ◌++◌, length, get_or, take, drop, set, replicate, Some, sym, refl, ap, ◌∙◌, subst, inl, inr, ⊎_elim, arith, length-take, rules}
 use mathlib.Core.Bool.{beq}
 use Rattle.std.specs.Str.{bytes_eq}
 use Rattle.std.specs.List.{slice_get}
@@ -8,7 +8,7 @@ use Rattle.std.proofs.lemmas.List.{take_more_set, drop-replicate, drop-drop, dro
 use Rattle.std.proofs.lemmas.Bool.{and_parts, and_from, eqb-true, eq-eqb, cases_Bool, cond-true, cond-false}
 use Rattle.index.specs.Keyed.{NotIn}
 use Rattle.names.specs.declared.Name.{Name}
-use Rattle.grammar.specs.Numbering.{same_name, environmental, same_kind, rank, listed, extended, variable_of}
+use Rattle.grammar.specs.Numbering.{same_name, environmental, same_kind, rank, listed, variable_of}
 use Rattle.parser.specs.declared.table.Names.{Names}
 use Rattle.parser.specs.Naming.{names_of, of_kind, Numbered, Appended, blank_name}
 

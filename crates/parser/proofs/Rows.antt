@@ -1,9 +1,9 @@
 -- The lines and sections of a text, as the grammar takes them.
-use Rattle.std.proofs.Common.{◌≡◌, ℕ, zero, suc, ◌+◌, ◌-◌, ◌<◌, ◌≤◌, Bool, true, false, List, [], length, IsErrAnd, Ok, Err, codes, Result, sym, refl, ap, ◌∙◌, subst, arith}
+use Rattle.std.proofs.Common.{◌≡◌, ℕ, zero, suc, ◌-◌, ◌<◌, Bool, true, false, List, [], length, IsErrAnd, Ok, Err, codes, Result, sym, refl, ap, ◌∙◌, arith}
 use Rattle.faults.specs.declared.TextFault.{TextFault}
 use Rattle.temporal.specs.Written.{Written, conjunction}
-use Rattle.grammar.specs.Grammar.{State, moved, Out, good, stop, and_then, whole_at}
-use Rattle.grammar.specs.Sections.{Contents, Form, formed, refused, or_refused, out_or_refused, ended, blanks, line_in, header_in, third_in}
+use Rattle.grammar.specs.Grammar.{State, moved, Out, good, and_then, whole_at}
+use Rattle.grammar.specs.Sections.{Form, formed, refused, or_refused, out_or_refused, ended, blanks, line_in, header_in, third_in}
 use Rattle.grammar.specs.Sections.{third_begins, formula_in, lines_in, safety_in, sections_of}
 use Rattle.parser.specs.declared.reader.Reader.{Reader}
 use Rattle.parser.specs.declared.reader.Roots.{Roots}

@@ -1,24 +1,23 @@
 -- The steps of the descent, as the grammar takes them.
-use Rattle.std.proofs.Common.{◌≡◌, ℕ, zero, suc, ◌+◌, ◌-◌, ◌<◌, ◌≤◌, Bool, true, false, List, length, Ok, Err, Result, sym, refl, ap, ◌∙◌, subst, ⊎_elim, arith, rules}
+use Rattle.std.proofs.Common.{◌≡◌, ℕ, zero, suc, ◌-◌, ◌<◌, Bool, true, false, List, length, Ok, Result, sym, refl, ap, ◌∙◌, ⊎_elim, arith, rules}
 use Rattle.faults.specs.declared.Reason.TheVariants as reason
 use Rattle.faults.specs.declared.TextFault.{TextFault}
 use Rattle.lexer.specs.declared.token.Lexeme.{Lexeme}
 use Rattle.lexer.specs.declared.token.Symbol.{Symbol}
 use Rattle.lexer.specs.declared.token.Symbol.TheVariants as symbol
 use Rattle.lexer.specs.declared.token.Token.{Token}
-use Rattle.lexer.specs.declared.token.Token.TheVariants as token
 use Rattle.lexer.specs.Lexer.{look_at, Sees}
-use Rattle.lexer.specs.Tokens.{is_symbol, is_end, refusal_of}
+use Rattle.lexer.specs.Tokens.{is_symbol, is_end}
 use Rattle.temporal.specs.Written.{Written}
 use Rattle.nodes.specs.declared.node.Connective.{Connective}
 use Rattle.nodes.specs.declared.node.Connective.TheVariants as connective
-use Rattle.nodes.specs.Trees.{constant_of, apply, join}
+use Rattle.nodes.specs.Trees.{apply, join}
 use Rattle.grammar.specs.declared.head.Head.{Head}
 use Rattle.grammar.specs.declared.head.Head.TheVariants as head
 use Rattle.grammar.specs.declared.head.Prefixed.{Prefixed}
 use Rattle.grammar.specs.declared.head.Unary.{Unary}
 use Rattle.grammar.specs.Grammar.{State, moved, Out, good, stop, Parser, and_then, refuse, misplaced, Inside, full, room, head_of, symbol_of}
-use Rattle.grammar.specs.Grammar.{prefix_in, prefixed, behind, word_name, named, closed, begun, unary_by, more, chain_by, implication_in}
+use Rattle.grammar.specs.Grammar.{prefix_in, prefixed, closed, begun, unary_by, more, chain_by, implication_in}
 use Rattle.grammar.specs.Grammar.{arrowed, arrow_by, operand_by, chain_of, arrow_of, inside}
 
 -- the nesting

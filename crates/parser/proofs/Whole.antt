@@ -1,11 +1,11 @@
 -- A whole text: its length, and what the reader hands over.
-use Rattle.std.proofs.Common.{◌≡◌, ℕ, Bool, true, false, ltb, List, length, get_or, take, IsErrAnd, Ok, Err, Result, sym, refl, ap, ◌∙◌, subst}
+use Rattle.std.proofs.Common.{◌≡◌, ℕ, true, false, ltb, List, length, get_or, take, IsErrAnd, Ok, Err, Result, sym, ap, ◌∙◌, subst}
 use Rattle.std.proofs.lemmas.Bool.{cond-true, cond-false}
 use Rattle.faults.specs.declared.Reason.TheVariants as reason
 use Rattle.faults.specs.declared.TextFault.{TextFault}
 use Rattle.temporal.specs.Written.{truth}
 use Rattle.nodes.specs.Trees.{trees_of}
-use Rattle.grammar.specs.Sections.{Form, formed, refused, sections_of, form_of}
+use Rattle.grammar.specs.Sections.{Form, refused, sections_of, form_of}
 use Rattle.parser.specs.declared.parsed.Parsed.{Parsed}
 use Rattle.parser.specs.declared.reader.Reader.{Reader}
 use Rattle.parser.specs.declared.reader.Roots.{Roots}

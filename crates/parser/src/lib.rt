@@ -103,8 +103,9 @@ mod tests {
             return Ok(());
         };
         assert_eq!(rt; parsed.names.count, 2);
-        assert_eq!(rt; parsed.names.variables[0], 16);
-        assert_eq!(rt; parsed.names.variables[1], 0);
+        let [first, second, ..] = parsed.names.variables;
+        assert_eq!(rt; first, 16);
+        assert_eq!(rt; second, 0);
         assert_eq!(rt; parsed.syntax.count, 13);
         assert_eq!(rt; parsed.syntax.initial, 1);
         assert_eq!(rt; parsed.syntax.safety, 12);

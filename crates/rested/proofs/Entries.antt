@@ -1,9 +1,8 @@
 -- What the form of a record says, by its kind; and the rest of its entry.
-use Rattle.std.proofs.Common.{◌≡◌, ℕ, zero, suc, ◌<◌, ◌≤◌, Bool, true, false, cond, ◌&&◌, ◌||◌, eqb, leb, ◌⊎◌, List, [], ◌∷◌, map, length, get_or, Some, None, Option, sym, refl, ap, ◌∙◌, subst, inl, inr, arith}
+use Rattle.std.proofs.Common.{◌≡◌, ℕ, ◌<◌, ◌≤◌, Bool, true, false, cond, ◌&&◌, ◌||◌, eqb, leb, List, length, Some, Option, sym, refl, ap, ◌∙◌, subst, arith}
 use mathlib.Core.Bool.{false≢true}
 use Rattle.std.proofs.lemmas.Bool.{ne_eqb}
-use Rattle.temporal.specs.Formula.{Formula, bot, top, lit, Reading, rest, constant}
-use Rattle.temporal.specs.Game.{Spec}
+use Rattle.temporal.specs.Formula.{Formula, bot, top, lit, Reading, constant}
 use Rattle.temporal.proofs.Tells.{and_tells, le_tells, self_tells}
 use Rattle.tableau.specs.Card.{Entry, by_kind, build}
 use Rattle.tableau.specs.Form.{part_formed, constant_formed, literal_formed, pair_formed, next_formed, range_formed, formula_formed}

@@ -1,14 +1,14 @@
 -- A record is listed exactly where its formula is.
-use Rattle.std.proofs.Common.{◌≡◌, ℕ, zero, suc, ◌<◌, ◌≤◌, Bool, true, false, ◌⊎◌, List, [], ◌∷◌, map, length, get_or, Some, None, Option, sym, refl, ap, ◌∙◌, subst, inl, inr, arith}
+use Rattle.std.proofs.Common.{◌≡◌, ℕ, zero, suc, ◌<◌, ◌≤◌, Bool, true, false, ◌⊎◌, List, [], ◌∷◌, map, length, Some, None, Option, sym, refl, ap, ◌∙◌, subst, inl, inr, arith}
 use mathlib.Core.Bool.{false≢true}
 use Rattle.std.specs.List.{slice_get}
-use Rattle.temporal.specs.Formula.{Formula, Reading, bot, top, Shape, shape, Kind, is_bot, is_top, other, kind}
+use Rattle.temporal.specs.Formula.{Formula, Reading, bot, top, shape, is_bot, is_top, other, kind}
 use Rattle.temporal.specs.Formula.{conjoin, disjoin, conjoin_by, disjoin_by}
 use Rattle.temporal.specs.Formula.{lit, conj, disj, next, always, eventually}
-use Rattle.temporal.specs.Parts.{◌∈◌, member}
+use Rattle.temporal.specs.Parts.{member}
 use Rattle.temporal.proofs.Lists.{place}
 use Rattle.temporal.proofs.Same.{member_tells}
-use Rattle.tableau.specs.Card.{Entry, no_entry, build}
+use Rattle.tableau.specs.Card.{Entry, build}
 use Rattle.tableau.proofs.Different.{Read}
 use Rattle.index.specs.Keyed.{Found}
 use Rattle.records.specs.declared.FormulaRecord.{FormulaRecord}

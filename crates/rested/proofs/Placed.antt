@@ -1,8 +1,8 @@
 -- How the place of a formula's rest comes from the places of its parts' rests.
-use Rattle.std.proofs.Common.{◌≡◌, ℕ, zero, suc, ◌<◌, Bool, true, false, ◌&&◌, List, [], ◌∷◌, ◌++◌, length, get_or, is_some, Some, None, Option, sym, refl, ap, ◌∙◌, subst}
+use Rattle.std.proofs.Common.{◌≡◌, ℕ, Bool, true, false, ◌&&◌, List, [], ◌∷◌, ◌++◌, get_or, is_some, Some, None, Option, sym, refl, ap, ◌∙◌, subst}
 use Rattle.std.proofs.lemmas.Bool.{and_from, and_left, and_right}
 use Rattle.temporal.specs.Formula.{Formula, bot, Reading, rest}
-use Rattle.temporal.specs.Parts.{◌∈◌, member}
+use Rattle.temporal.specs.Parts.{member}
 use Rattle.temporal.proofs.Lists.{at_member, cast}
 use Rattle.temporal.proofs.Same.{member_tells}
 use Rattle.tableau.specs.Lists.{all}

@@ -1,14 +1,14 @@
 -- The rests of X, G and F, and of an entry from those before it.
-use Rattle.std.proofs.Common.{◌≡◌, ℕ, zero, suc, ◌-◌, ◌<◌, ◌≤◌, Bool, true, false, ◌⊎◌, List, [], ◌∷◌, ◌++◌, map, length, get_or, Some, None, Option, sym, refl, ap, ◌∙◌, subst, inl, inr, arith}
-use Rattle.temporal.specs.Formula.{Formula, bot, top, lit, conj, disj, next, always, eventually, Reading, rest, constant, conjoin, disjoin}
+use Rattle.std.proofs.Common.{◌≡◌, ℕ, zero, suc, ◌-◌, ◌<◌, ◌≤◌, List, [], ◌∷◌, ◌++◌, length, get_or, Some, None, Option, sym, refl, ◌∙◌, subst, arith}
+use Rattle.temporal.specs.Formula.{Formula, bot, next, always, eventually, Reading, rest, conjoin, disjoin}
 use Rattle.tableau.specs.Met.{met}
 use Rattle.index.specs.declared.Slot.{Slot}
 use Rattle.records.specs.declared.FormulaRecord.{FormulaRecord}
 use Rattle.rested.specs.declared.key.FormulaKey.{FormulaKey}
-use Rattle.records.specs.Table.{formulas_of, formula_of}
-use Rattle.rested.specs.Listing.{InForm, Ready, key_of}
+use Rattle.records.specs.Table.{formulas_of}
+use Rattle.rested.specs.Listing.{Ready}
 use Rattle.rested.specs.Rests.{Placed, Rested}
-use Rattle.rested.specs.Steps.{Joined, JoinedBoth}
+use Rattle.rested.specs.Steps.{JoinedBoth}
 use Rattle.rested.proofs.Trees.{trees_long}
 use Rattle.rested.proofs.Placed.{rested_alone, rested_like, rested_no_left, rested_no_right, rested_both}
 use Rattle.rested.proofs.Placed.{rested_no_body, rested_no_shorter, rested_on}

@@ -1,6 +1,6 @@
 -- The trees of a list in form: each is built of those of its parts, and different entries are different trees.
 use Rattle.std.proofs.Common.{◌≡◌, ℕ, suc, ◌<◌, ◌≤◌, true, false, List, [], ◌∷◌, map, length, sym, refl, ap, ◌∙◌, arith}
-use Rattle.temporal.specs.Formula.{Formula, bot, top, lit, conj, disj, next, always, eventually, Shape, shape, kind, other}
+use Rattle.temporal.specs.Formula.{Formula, bot, top, lit, conj, disj, next, always, eventually, shape, kind, other}
 use Rattle.tableau.specs.Card.{Entry, Card, build}
 use Rattle.tableau.proofs.Trees.{length_trees, GoodList, first_kind, trees_good}
 use Rattle.tableau.proofs.Different.{Read, different_trees}

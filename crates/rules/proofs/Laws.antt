@@ -1,11 +1,10 @@
 -- From what parsing and normal form give to what reading promises.
-use Rattle.std.proofs.Common.{◌≡◌, ℕ, zero, suc, ◌+◌, ◌<◌, ◌≤◌, Bool, true, false, ◌&&◌, ◌||◌, ltb, leb, ◌⊎◌, List, [], ◌∷◌, ◌++◌, length, get_or, Some, None, sym, refl, ap, ◌∙◌, subst, inl, inr, arith}
+use Rattle.std.proofs.Common.{◌≡◌, ℕ, suc, ◌+◌, ◌<◌, ◌≤◌, Bool, true, false, ◌&&◌, ◌||◌, ltb, leb, List, [], ◌∷◌, ◌++◌, length, get_or, Some, sym, refl, ap, ◌∙◌, subst, inl, inr, arith}
 use Rattle.std.specs.List.{slice_get}
 use Rattle.std.proofs.lemmas.Option.{slice_get-get_or}
 use Rattle.std.proofs.lemmas.Bool.{and_from, lt-ltb, le-leb}
 use Rattle.temporal.specs.Formula.{Formula as Tree, bot, top, Fine, Numbered}
-use Rattle.temporal.specs.Written.{Written, normal, WrittenFine}
-use Rattle.temporal.specs.Game.{Spec, WellFormed}
+use Rattle.temporal.specs.Game.{WellFormed}
 use Rattle.temporal.specs.Parts.{◌∈◌, enter}
 use Rattle.temporal.proofs.Lists.{at_member}
 use Rattle.temporal.proofs.Normal.{says_true, normal_fine, fine_ordered}

@@ -1,5 +1,5 @@
 -- What reading answers, from what parsing and normal form answer.
-use Rattle.std.proofs.Common.{◌≡◌, ℕ, ◌<◌, ◌≤◌, Bool, true, false, cond, ◌||◌, ltb, ◌⊎◌, List, length, take, IsErrAnd, Some, Ok, Err, Result, sym, refl, ap, ◌∙◌, subst, inl, inr, arith}
+use Rattle.std.proofs.Common.{◌≡◌, ℕ, ◌<◌, ◌≤◌, Bool, true, false, cond, ◌||◌, ltb, List, length, take, IsErrAnd, Some, Ok, Err, Result, sym, refl, ap, ◌∙◌, subst, arith}
 use Rattle.std.specs.List.{slice_get}
 use Rattle.std.proofs.lemmas.Bool.{lt-ltb, le-ltb, ltb-true, ltb-false}
 use Rattle.faults.specs.declared.Buffer.TheVariants as buffer
@@ -10,10 +10,8 @@ use Rattle.faults.specs.declared.Fault.TheVariants.{Text, Short}
 use Rattle.names.specs.declared.Name.{Name}
 use Rattle.formulas.specs.declared.Formula.{Formula}
 use Rattle.temporal.specs.Formula.{Formula as Tree}
-use Rattle.temporal.specs.Written.{Written, normal}
-use Rattle.temporal.specs.Game.{WellFormed}
+use Rattle.temporal.specs.Written.{normal}
 use Rattle.temporal.specs.Parts.{parts_of}
-use Rattle.formulas.specs.Trees.{trees, ordered}
 use Rattle.nodes.specs.declared.syntax.Syntax.{Syntax}
 use Rattle.normal.specs.declared.table.Formulas.{Formulas}
 use Rattle.normal.specs.declared.table.Refusal.{Refusal}
@@ -21,16 +19,15 @@ use Rattle.normal.specs.declared.table.Refusal.TheVariants as refusal
 use Rattle.normal.specs.Normalized.{Lists, parts_in, Normalized}
 use Rattle.parser.specs.declared.parsed.Parsed.{Parsed}
 use Rattle.parser.specs.Naming.{names_of}
-use Rattle.parser.specs.Parsing.{formula_at, Holds, Answers, Parses}
+use Rattle.parser.specs.Parsing.{Holds, Answers, Parses}
 use Rattle.grammar.specs.Sections.{Contents, Form, formed, refused, form_of}
-use Rattle.grammar.specs.Shows.{Derives}
-use Rattle.grammar.proofs.Reading.{reads_what_is_derived, derivation_is_unique}
+use Rattle.grammar.proofs.Reading.{reads_what_is_derived}
 use Rattle.rules.specs.declared.specification.Specification.{Specification}
 use Rattle.rules.specs.Fields.{view_from}
 use Rattle.rules.specs.Form.{in_form}
 use Rattle.rules.specs.Laws.{ReadsAsDerived, KeepsMeaning, StatesGame}
-use Rattle.rules.specs.Read.{View, initial_of, safety_of, formulas_of, view_of, counted, viewed, reads, reads_with}
-use Rattle.rules.specs.Shown.{view, view_result}
+use Rattle.rules.specs.Read.{View, formulas_of, view_of, viewed, reads, reads_with}
+use Rattle.rules.specs.Shown.{view_result}
 use Rattle.rules.proofs.Laws.{Tabled, tabled_view, tabled_is, tabled_form, tabled_meaning, tabled_game, second_is_true}
 
 -- all that is promised of an answer

@@ -1,19 +1,19 @@
 -- A table of entries whose trees are known is known itself.
-use Rattle.std.proofs.Common.{◌≡◌, ℕ, ◌<◌, ◌≤◌, Bool, true, List, [], ◌∷◌, map, length, get_or, Some, None, sym, refl, ap, ◌∙◌, subst, arith}
+use Rattle.std.proofs.Common.{◌≡◌, ℕ, ◌<◌, ◌≤◌, true, List, map, length, get_or, Some, sym, ap, ◌∙◌, subst, arith}
 use Rattle.std.specs.List.{slice_get}
 use Rattle.std.proofs.lemmas.Option.{slice_get-get_or}
 use Rattle.std.proofs.lemmas.List.{ext_get_or, length-map, get_or-map}
 use Rattle.temporal.specs.Formula.{Formula as Tree, bot}
-use Rattle.temporal.specs.Parts.{Once, ◌∈◌}
+use Rattle.temporal.specs.Parts.{Once}
 use Rattle.temporal.proofs.Parts.{parts_once}
 use Rattle.names.specs.declared.Name.{Name}
 use Rattle.formulas.specs.declared.Formula.{Formula}
 use Rattle.formulas.specs.declared.Formula.TheVariants as entry
-use Rattle.formulas.specs.Trees.{grow, trees, parts_below, ordered, place_of, entry_of}
+use Rattle.formulas.specs.Trees.{grow, trees, ordered, place_of, entry_of}
 use Rattle.formulas.proofs.Folds.{nth_within}
 use Rattle.formulas.proofs.Trees.{placed, entry_back, tree_at_lem, trees_length, ordered_at, below_more}
 use Rattle.grammar.specs.Sections.{Contents}
-use Rattle.rules.specs.Read.{View, initial_of, safety_of, formulas_of, view_of}
+use Rattle.rules.specs.Read.{initial_of, safety_of, formulas_of, view_of}
 
 some_is : {A : Type 0} (x y : A) → Some x ≡ Some y → x ≡ y
 some_is x y e = cc

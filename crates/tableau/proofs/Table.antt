@@ -1,5 +1,5 @@
 -- A formula list with every light formula: parts before wholes, nothing twice.
-use Rattle.std.proofs.Common.{◌≡◌, ℕ, zero, suc, ◌+◌, ◌<◌, ◌≤◌, Bool, true, false, ◌&&◌, ◌||◌, eqb, leb, List, [], ◌∷◌, ◌++◌, length, get_or, sym, refl, ap, ◌∙◌, subst, inl, inr, arith, length-append}
+use Rattle.std.proofs.Common.{◌≡◌, ℕ, zero, suc, ◌<◌, ◌≤◌, Bool, true, false, ◌&&◌, ◌||◌, eqb, leb, List, [], ◌∷◌, ◌++◌, length, get_or, sym, refl, ap, ◌∙◌, subst, inl, inr, arith, length-append}
 use native.Mathlib.Decide.{dec_lt}
 use Rattle.temporal.specs.Formula.{Formula, bot, top, lit, conj, disj, next, always, eventually, is_bot, is_top, other, kind, Numbered}
 use Rattle.temporal.specs.Parts.{◌∈◌, first, later}

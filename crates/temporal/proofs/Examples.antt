@@ -1,14 +1,14 @@
 -- The definitions compute on closed terms.
 use mathlib.Core.Path.{◌≡◌, refl}
-use mathlib.Core.Bool.{Bool, true, false}
-use mathlib.Core.List.{List, [], ◌∷◌}
-use Prim.Native.Nat.{ℕ, zero, suc, ◌+◌}
+use mathlib.Core.Bool.{true, false}
+use mathlib.Core.List.{[], ◌∷◌}
+use Prim.Native.Nat.{ℕ, zero, suc}
 use lib.ListN.{length}
-use Rattle.temporal.specs.Formula.{Formula, bot, top, lit, conj, disj, next, always, eventually, from, holds, reach, rest, same}
-use Rattle.temporal.specs.Written.{Written, falsity, truth, variable, negation, later, throughout, within, conjunction, disjunction}
+use Rattle.temporal.specs.Formula.{Formula, bot, top, lit, conj, disj, next, always, rest}
+use Rattle.temporal.specs.Written.{falsity, truth, variable, throughout, conjunction, disjunction}
 use Rattle.temporal.specs.Written.{implication, equivalence, normal}
-use Rattle.temporal.specs.Parts.{member, put, enter, parts_of}
-use Rattle.temporal.specs.Game.{reading, Step}
+use Rattle.temporal.specs.Parts.{parts_of}
+use Rattle.temporal.specs.Game.{reading}
 
 -- s <-> p_e: the two constants and seven parts
 copy : parts_of top (normal true (equivalence (variable 16) (variable 0)))

@@ -1,6 +1,5 @@
 -- The normal form says what the formula says, and is fine.
 use mathlib.Core.Path.{◌≡◌, refl, sym, ◌∙◌, ap, ap₂, subst}
-use mathlib.Core.Logic.{◌⊎◌, inl, inr, ◌↔◌}
 use mathlib.Core.Bool.{Bool, true, false, not, ◌&&◌, ◌||◌, beq, false≢true}
 use Prim.Native.Nat.{ℕ, zero, suc, ◌+◌, ◌≤◌}
 use native.Mathlib.Omega.{arith}
@@ -11,7 +10,7 @@ use Rattle.temporal.specs.Written.{Written, falsity, truth, variable, negation, 
 use Rattle.temporal.specs.Written.{implication, equivalence}
 use Rattle.temporal.specs.Written.{Valuation, Says, exactly, normal, Ordered, WrittenFine}
 use Rattle.temporal.proofs.Truth.{every_out, every_in, some_out, some_in, KindOk, kind_ok, holds_conjoin, holds_disjoin, from_at}
-use Rattle.temporal.proofs.Tells.{Tells, and_tells, or_tells, not_tells, implies_tells, equal_tells, self_tells, by_tells}
+use Rattle.temporal.proofs.Tells.{Tells, and_tells, or_tells, not_tells, implies_tells, equal_tells}
 
 -- ── ranges ──
 every_same : (P Q : ℕ → Bool) → ((k : ℕ) → P k ≡ Q k) → (n m : ℕ) → every P n m ≡ every Q n m

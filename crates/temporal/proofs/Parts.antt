@@ -1,12 +1,12 @@
 -- The list of parts: what entering a formula does to it.
 use mathlib.Core.Path.{◌≡◌, refl, sym, ◌∙◌, ap, subst}
-use mathlib.Core.Logic.{◌⊎◌, inl, inr, ◌↔◌, ⊎_elim}
+use mathlib.Core.Logic.{◌⊎◌, inl, inr}
 use mathlib.Core.Bool.{Bool, true, false, cond, false≢true}
 use mathlib.Core.List.{List, [], ◌∷◌, ◌++◌, append_assoc, append-nil}
-use Prim.Native.Nat.{ℕ, ◌+◌, ◌≤◌}
+use Prim.Native.Nat.{ℕ, ◌≤◌}
 use native.Mathlib.Omega.{arith}
 use lib.ListN.{length, length-append}
-use Rattle.temporal.specs.Formula.{Formula, bot, top, lit, conj, disj, next, always, eventually, Kind, is_bot, is_top, kind, Fine}
+use Rattle.temporal.specs.Formula.{Formula, bot, top, lit, conj, disj, next, always, eventually, is_bot, is_top, kind, Fine}
 use Rattle.temporal.specs.Parts.{◌∈◌, first, later, member, put, enter, parts_of, IsPart, Once, Closed, Entered}
 use Rattle.temporal.proofs.Tells.{Tells}
 use Rattle.temporal.proofs.Lists.{cast, in_cons, in_left, in_right, in_append, one_member}

@@ -8,7 +8,7 @@ use native.Mathlib.Omega.{arith}
 use lib.ListN.{length, get_or, take, drop, length-append, get_or-append, take-append-drop, length-take}
 use lib.Pow.{pow_pos}
 use Rattle.temporal.specs.Formula.{Formula, top, Reading, from, holds, reach, Fine}
-use Rattle.temporal.specs.Game.{Spec, allowed, Permitted, Reply, WellFormed, Step, Run, value, reading, padded, blank, readings}
+use Rattle.temporal.specs.Game.{Spec, Permitted, Reply, WellFormed, Step, Run, value, reading, padded, blank, readings}
 use Rattle.temporal.specs.Game.{Complete, Broken, InRange, Lost, inputs, replies, Replied, Asked, SystemWins, EnvironmentWins}
 use Rattle.temporal.proofs.Truth.{local_at}
 

@@ -1,11 +1,11 @@
 -- The test of equality tells equality, and the test of membership membership.
-use mathlib.Core.Path.{◌≡◌, refl, sym, ◌∙◌, ap, subst}
-use mathlib.Core.Logic.{◌⊎◌, inl, inr, ◌↔◌}
-use mathlib.Core.Bool.{Bool, true, false, cond, ◌&&◌, ◌||◌, false≢true}
+use mathlib.Core.Path.{◌≡◌, refl, sym, ◌∙◌, ap}
+use mathlib.Core.Logic.{inl, inr}
+use mathlib.Core.Bool.{Bool, true, false, cond, ◌||◌, false≢true}
 use mathlib.Core.List.{List, [], ◌∷◌}
 use Prim.Native.Nat.{ℕ}
 use lib.Dec.{eqb}
-use Rattle.temporal.specs.Formula.{Formula, bot, top, lit, conj, disj, next, always, eventually, Shape, shape, same_operator, same}
+use Rattle.temporal.specs.Formula.{Formula, bot, top, lit, conj, disj, next, always, eventually, shape, same_operator, same}
 use Rattle.temporal.specs.Parts.{◌∈◌, first, later, member}
 use Rattle.temporal.proofs.Tells.{Tells, eq_tells, and_tells, or_tells, by_tells}
 use Rattle.temporal.proofs.Lists.{cast, in_cons}

@@ -1,5 +1,5 @@
 -- The laws, as statements.
-use Rattle.std.specs.Prelude.{◌≡◌, ◌↔◌, Bool, true, false, not, List, [], ◌∷◌, ◌++◌, ℕ, suc, ◌+◌, ◌^◌, ◌≤◌, ◌<◌, length}
+use Rattle.std.specs.Prelude.{◌≡◌, ◌↔◌, Bool, true, false, not, List, [], ◌∷◌, ◌++◌, ℕ, suc, ◌+◌, ◌^◌, ◌≤◌, ◌<◌}
 use Rattle.temporal.specs.Formula.{Formula, top, Reading, ◌⊆◌, from, every, some, holds, reach, rest, Fine, same}
 use Rattle.temporal.specs.Written.{Written, Valuation, Says, exactly, normal, Ordered, WrittenFine}
 use Rattle.temporal.specs.Parts.{◌∈◌, member, enter, parts_of, Once, Closed, Entered}

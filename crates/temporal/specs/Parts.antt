@@ -1,5 +1,5 @@
 -- The list of a formula's parts: parts before wholes, each once.
-use Rattle.std.specs.Prelude.{◌≡◌, ◌⊎◌, Bool, true, false, cond, ◌||◌, List, [], ◌∷◌, ◌++◌}
+use Rattle.std.specs.Prelude.{◌≡◌, ◌⊎◌, Bool, false, cond, ◌||◌, List, [], ◌∷◌, ◌++◌}
 use Rattle.temporal.specs.Formula.{Formula, bot, top, lit, conj, disj, next, always, eventually, same}
 
 infix 40 ◌∈◌

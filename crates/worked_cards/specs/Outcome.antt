@@ -4,7 +4,7 @@ use Rattle.faults.specs.declared.Fault.{Fault as TextFault}
 use Rattle.rules.specs.Read.{View, reads}
 use Rattle.rules.specs.Laws.{game_of}
 use Rattle.tableau.specs.Conditions.{Fault, fault_at}
-use Rattle.tableau.specs.Judge.{Verdict, realizable, unrealizable, judge}
+use Rattle.tableau.specs.Judge.{Verdict, judge}
 use Rattle.records.specs.declared.FormulaRecord.{FormulaRecord}
 use Rattle.records.specs.declared.NodeRecord.{NodeRecord}
 use Rattle.records.specs.declared.MoveRecord.{MoveRecord}

@@ -1,4 +1,4 @@
-use Rattle.std.proofs.Common.{◌≡◌, ℕ, ◌-◌, length, take, ap, arith}
+use Rattle.std.proofs.Common.{◌≡◌, ℕ, ◌-◌, take, ap, arith}
 use Rattle.normal.proofs.Whole.{text_over, text_listed}
 use Rattle.normal.proofs.normalize.Goals as goal
 

@@ -1,4 +1,4 @@
-use Rattle.std.proofs.Common.{◌≡◌, sym, ap, ◌∙◌}
+use Rattle.std.proofs.Common.{sym, ap, ◌∙◌}
 use Rattle.grammar.specs.Sections.{refused}
 use Rattle.parser.proofs.Whole.{long_form, short_form, hands_on, handed}
 use Rattle.parser.proofs.read.Goals as goal

@@ -1,4 +1,4 @@
-use Rattle.std.proofs.Common.{◌≡◌, refl}
+use Rattle.std.proofs.Common.{refl}
 use Rattle.lexer.specs.Lexer.{look_at, token_at}
 use Rattle.lexer.specs.Bounds.{bound_in, range_in, sign_in, number_in}
 use Rattle.grammar.specs.Grammar.{unary_by, more, chain_by, arrow_by, operand_by, inside}

@@ -1,4 +1,4 @@
-use Rattle.std.proofs.Common.{◌≡◌, sym, ap, ◌∙◌, subst}
+use Rattle.std.proofs.Common.{sym, ap, ◌∙◌, subst}
 use Rattle.std.proofs.lemmas.Bool.{cond-true, cond-false}
 use Rattle.lexer.specs.Bounds.{bound_in, bound_from, WhenOk, GoodBound}
 use Rattle.lexer.proofs.Limits.{bound_good}

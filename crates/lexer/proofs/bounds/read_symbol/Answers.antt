@@ -1,4 +1,4 @@
-use Rattle.std.proofs.Common.{◌≡◌, sym, ap, ◌∙◌}
+use Rattle.std.proofs.Common.{sym, ap, ◌∙◌}
 use Rattle.std.proofs.lemmas.Bool.{cond-true, cond-false}
 use Rattle.lexer.specs.Bounds.{sign_in, sign_of, refused}
 use Rattle.lexer.proofs.bounds.read_symbol.Goals as goal

@@ -1,6 +1,6 @@
-use Rattle.std.proofs.Common.{◌≡◌, ◌||◌, ap, ◌∙◌}
-use Rattle.lexer.specs.Tokens.{is_line, is_end}
-use Rattle.grammar.specs.Sections.{expected, is_this, is_true, line_in}
+use Rattle.std.proofs.Common.{ap, ◌∙◌}
+use Rattle.lexer.specs.Tokens.{is_line}
+use Rattle.grammar.specs.Sections.{expected, line_in}
 use Rattle.parser.proofs.lines.expect_line.Goals as goal
 
 pub returns : goal.returns

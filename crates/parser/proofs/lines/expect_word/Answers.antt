@@ -1,6 +1,5 @@
-use Rattle.std.proofs.Common.{◌≡◌, ◌||◌, ap, ◌∙◌}
-use Rattle.lexer.specs.Tokens.{is_line, is_end}
-use Rattle.grammar.specs.Sections.{expected, is_this, is_true, word_in}
+use Rattle.std.proofs.Common.{ap, ◌∙◌}
+use Rattle.grammar.specs.Sections.{expected, is_this, word_in}
 use Rattle.parser.proofs.lines.expect_word.Goals as goal
 
 pub returns : goal.returns

@@ -1,4 +1,4 @@
-use Rattle.std.proofs.Common.{◌≡◌, ◌+◌, ◌-◌, length, sym, refl, ap, ◌∙◌, arith}
+use Rattle.std.proofs.Common.{◌≡◌, ◌+◌, ◌-◌, length, sym, ap, ◌∙◌, arith}
 use Rattle.grammar.specs.Sections.{blanks, past_lines}
 use Rattle.parser.proofs.Blanks.{past_none, past_end, past_more}
 use Rattle.parser.proofs.lines.skip_lines.Goals as goal

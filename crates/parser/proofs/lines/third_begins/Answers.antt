@@ -1,5 +1,4 @@
-use Rattle.std.proofs.Common.{◌≡◌, ◌&&◌, codes, sym, refl, ap, ◌∙◌}
-use Rattle.grammar.specs.Sections.{is_this, third_begins}
+use Rattle.std.proofs.Common.{sym, ◌∙◌}
 use Rattle.parser.proofs.Blanks.{third_is}
 use Rattle.parser.proofs.lines.third_begins.Goals as goal
 

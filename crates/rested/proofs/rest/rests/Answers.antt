@@ -1,4 +1,4 @@
-use Rattle.std.proofs.Common.{◌≡◌, ℕ, ◌<◌, length, Some, None, Option, ◌∙◌, arith}
+use Rattle.std.proofs.Common.{ℕ, ◌<◌, length, None, Option, ◌∙◌, arith}
 use Rattle.std.proofs.lemmas.List.{length-set, length-replicate}
 use Rattle.records.specs.Table.{formulas_of, formula_of}
 use Rattle.rested.specs.Rests.{Rested}

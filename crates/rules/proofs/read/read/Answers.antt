@@ -1,6 +1,6 @@
-use Rattle.std.proofs.Common.{◌≡◌, ◌≤◌, length, sym, ◌∙◌, arith}
+use Rattle.std.proofs.Common.{sym}
 use Rattle.std.proofs.lemmas.Bool.{ltb-false}
-use Rattle.rules.proofs.Results.{Promised, parsed, parse_refused, made, promised, promised_too_many, many_parts, handed_on}
+use Rattle.rules.proofs.Results.{parsed, parse_refused, made, promised, promised_too_many, many_parts, handed_on}
 use Rattle.rules.proofs.read.read.Goals as goal
 
 pub returns-in_err-parsed : goal.returns-in_err-parsed

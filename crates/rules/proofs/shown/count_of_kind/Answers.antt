@@ -1,6 +1,4 @@
-use Rattle.std.proofs.Common.{◌≡◌, ◌+◌, ◌≤◌, List, length, ap, subst, arith}
-use Rattle.names.specs.declared.Name.{Name}
-use Rattle.rules.proofs.OfKind.{kind_count, kind_end, counted_on, counted_all}
+use Rattle.rules.proofs.OfKind.{counted_on, counted_all}
 use Rattle.rules.proofs.shown.count_of_kind.Goals as goal
 
 pub loop-name-preserved : goal.loop-name-preserved

@@ -1,9 +1,9 @@
-use Rattle.std.proofs.Common.{◌≡◌, ℕ, ◌+◌, ◌-◌, ◌<◌, ◌≤◌, length, sym, refl, ap, ◌∙◌, subst, arith}
+use Rattle.std.proofs.Common.{◌≡◌, ◌+◌, ◌-◌, ◌<◌, length, sym, refl, ap, ◌∙◌, subst, arith}
 use Rattle.lexer.specs.declared.token.Symbol.TheVariants as symbol
 use Rattle.lexer.specs.Tokens.{is_symbol}
 use Rattle.nodes.specs.declared.node.Connective.{Connective}
 use Rattle.grammar.specs.declared.head.Head.TheVariants as head
-use Rattle.grammar.specs.Grammar.{Out, stop, and_then, more, inside, operand_by}
+use Rattle.grammar.specs.Grammar.{Out, stop, and_then, more, operand_by}
 use Rattle.grammar.proofs.Prefixes.{prefix_ok}
 use Rattle.parser.specs.Naming.{names_of}
 use Rattle.parser.specs.Reading.{tree_at, state_at, Reads, ReadsBy, operand_with}
@@ -11,7 +11,7 @@ use Rattle.parser.proofs.Moves.{ready_on, room_behind, went_node, went_both, wen
 use Rattle.parser.proofs.Joins.{opened, unary_went, unary_good, binary_went, binary_good}
 use Rattle.parser.proofs.Steps.{unary_is, prefix_full, prefix_on, prefix_then, group_full, group_then, group_closed, chain_then}
 use Rattle.parser.proofs.Steps.{more_none, more_end, more_then, arrow_stop, arrow_end, arrow_full, arrow_then, symbol_reads}
-use Rattle.parser.proofs.Steps.{constant_reads, variable_reads, prefix_reads, group_reads}
+use Rattle.parser.proofs.Steps.{constant_reads, prefix_reads, group_reads}
 use Rattle.parser.proofs.reader.Reader.+arrow_chain_operand_unary.Goals as goal
 
 -- arrow

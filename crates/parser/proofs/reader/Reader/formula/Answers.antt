@@ -1,5 +1,5 @@
-use Rattle.std.proofs.Common.{◌≡◌, ℕ, ◌+◌, ◌<◌, ◌≤◌, sym, refl, ap, ◌∙◌, subst, arith}
-use Rattle.parser.specs.Reading.{Ready, Reads, Went}
+use Rattle.std.proofs.Common.{ℕ, sym, refl, subst, arith}
+use Rattle.parser.specs.Reading.{Ready}
 use Rattle.parser.proofs.Blanks.{blanks_on, line_reads, line_ok}
 use Rattle.parser.proofs.Moves.{failed, ready_on, went_earlier, went_later}
 use Rattle.parser.proofs.Rows.{formula_then, formula_ended}

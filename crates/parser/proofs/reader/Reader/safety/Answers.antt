@@ -1,4 +1,4 @@
-use Rattle.std.proofs.Common.{◌≡◌, ℕ, ◌+◌, ◌-◌, ◌<◌, ◌≤◌, length, sym, refl, ap, ◌∙◌, subst, arith}
+use Rattle.std.proofs.Common.{◌≡◌, ◌+◌, ◌-◌, length, ap, ◌∙◌, arith}
 use Rattle.grammar.specs.Grammar.{and_then}
 use Rattle.grammar.specs.Sections.{lines_in}
 use Rattle.parser.specs.Reading.{tree_at, state_at}

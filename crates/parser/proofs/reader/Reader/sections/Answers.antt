@@ -1,10 +1,9 @@
-use Rattle.std.proofs.Common.{◌≡◌, ℕ, ◌+◌, ◌<◌, ◌≤◌, List, [], length, Ok, Err, codes, sym, refl, ap, ◌∙◌, subst, arith}
+use Rattle.std.proofs.Common.{◌≡◌, ℕ, List, Ok, ◌∙◌, arith}
 use Rattle.index.specs.declared.Slot.{Slot}
 use Rattle.names.specs.declared.Name.{Name}
 use Rattle.grammar.specs.Sections.{header_in}
 use Rattle.parser.specs.declared.reader.Reader.{Reader}
-use Rattle.parser.specs.declared.reader.Part.{Part}
-use Rattle.parser.specs.Reading.{Ready, Went, tree_at}
+use Rattle.parser.specs.Reading.{Ready}
 use Rattle.parser.proofs.Blanks.{header_ok}
 use Rattle.parser.proofs.Moves.{ready_on, ready_behind}
 use Rattle.parser.proofs.Rows.{refuses, begins, formed_later, first_read, formula_read, second_read, safety_read, third_read}

@@ -1,4 +1,4 @@
-use Rattle.std.proofs.Common.{◌≡◌, ◌≤◌, sym, ap, ◌∙◌, subst, arith}
+use Rattle.std.proofs.Common.{subst}
 use Rattle.names.specs.declared.Name.{Name}
 use Rattle.parser.specs.Naming.{Has}
 use Rattle.parser.proofs.Moves.{variable_read}

@@ -1,12 +1,11 @@
-use Rattle.std.proofs.Common.{◌≡◌, ◌+◌, ◌<◌, ◌≤◌, min, Bool, true, false, cond, not, ltb, List, [], ◌∷◌, ◌++◌, length, take, sym, refl, ap, ◌∙◌, subst, arith, length-take, rules}
+use Rattle.std.proofs.Common.{◌+◌, ◌<◌, Bool, cond, List, sym, ap, ◌∙◌, subst, arith, length-take}
 use Rattle.std.proofs.lemmas.Bool.{cond-true, cond-false, ltb-true, ltb-false, not-true, not-false}
 use Rattle.index.specs.Keyed.{Indexed}
 use Rattle.names.specs.declared.Name.{Name}
 use Rattle.names.specs.Words.{name_code}
-use Rattle.grammar.specs.Numbering.{rank, listed, environmental}
-use Rattle.parser.specs.Naming.{names_of, Numbered, Known, Appended}
-use Rattle.parser.specs.declared.table.Names.{Names}
-use Rattle.parser.proofs.Naming.{nth_below, is_listed, not_listed, rank_new, names_more, numbered_more, used_is}
+use Rattle.grammar.specs.Numbering.{rank, environmental}
+use Rattle.parser.specs.Naming.{names_of, Appended}
+use Rattle.parser.proofs.Naming.{nth_below, is_listed, not_listed, names_more, numbered_more, used_is}
 use Rattle.parser.proofs.table.Names.declare.Goals as goal
 
 pub bounds-self-number : goal.bounds-self-number
