@@ -2,7 +2,7 @@
 use Rattle.std.proofs.Common.{◌≡◌, ℕ, ◌+◌, ◌-◌, ◌*◌, ◌/◌, ◌%◌, ◌^◌, ◌<◌, ◌≤◌, min, Bool, true, false, cond, ◌&&◌, ◌||◌, eqb, List, [], ◌∷◌, map, get_or, sym, refl, ap, ◌∙◌, subst, true≢false, mod-lt, arith, pow_pos, pow_mono, pow-add}
 use Rattle.temporal.specs.Game.{bit}
 use Rattle.temporal.proofs.Tells.{Tells, eq_tells}
-use Rattle.tableau.specs.Lists.{span, all, count}
+use Rattle.tableau.specs.Lists.{span, count}
 use Rattle.tableau.specs.Moves.{Move}
 use Rattle.tableau.specs.Card.{move_at}
 use Rattle.tableau.proofs.Tests.{below_tells}

@@ -1,5 +1,5 @@
 -- The word of a cube's low six variables has the bits of the valuations that agree.
-use Rattle.std.proofs.Common.{◌≡◌, ℕ, zero, suc, ◌-◌, ◌%◌, ◌^◌, ◌<◌, Bool, true, false, not, ◌&&◌, ◌||◌, eqb, sym, refl, ap, ◌∙◌, true≢false, arith, lit<, eq-eqb, eqb-true}
+use Rattle.std.proofs.Common.{◌≡◌, ℕ, zero, suc, ◌%◌, ◌^◌, ◌<◌, Bool, true, false, not, ◌&&◌, ◌||◌, eqb, sym, refl, ap, ◌∙◌, true≢false, arith, lit<, eq-eqb, eqb-true}
 use mathlib.Core.Bool.{beq, false≢true}
 use lib.Bits.{bit_and, and_le_l, and_le_r, and_mask}
 use Rattle.temporal.specs.Game.{bit}

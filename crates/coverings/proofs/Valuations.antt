@@ -1,14 +1,13 @@
 -- What a bitmap says of the valuations, and how often they agree with a row of cubes.
-use Rattle.std.proofs.Common.{◌≡◌, ℕ, ◌+◌, ◌-◌, ◌*◌, ◌/◌, ◌%◌, ◌^◌, ◌<◌, Bool, true, false, cond, ◌&&◌, ◌||◌, eqb, List, get_or, sym, refl, ap, ◌∙◌, subst, mod-eq_of_lt, arith, pow_pos, eq-eqb, eqb-true}
+use Rattle.std.proofs.Common.{◌≡◌, ℕ, ◌+◌, ◌*◌, ◌/◌, ◌%◌, ◌^◌, ◌<◌, Bool, true, false, cond, ◌&&◌, ◌||◌, eqb, List, get_or, sym, refl, ap, ◌∙◌, subst, mod-eq_of_lt, arith, pow_pos, eq-eqb, eqb-true}
 use native.Mathlib.Nat.{zero-div}
 use lib.Bits.{bit_and, bit_or, and_shr, and_mod, and_le_r, or_lt}
 use Rattle.temporal.specs.Game.{bit}
 use Rattle.temporal.proofs.Truth.{and_out, and_in, both_ways}
-use Rattle.tableau.specs.Lists.{count}
 use Rattle.tableau.proofs.Fits.{bit_and_lem}
 use Rattle.coverings.specs.declared.cube.Cube.{Cube}
 use Rattle.coverings.specs.Cubes.{agrees, Formed, low_word, agrees_high}
-use Rattle.coverings.specs.Bitmap.{apart, Apart, Joined, Full}
+use Rattle.coverings.specs.Bitmap.{Apart, Joined, Full}
 use Rattle.coverings.proofs.Bits.{bit_or_lem, by_bits}
 use Rattle.coverings.proofs.Low.{low_bit, low_lt, full_bit}
 

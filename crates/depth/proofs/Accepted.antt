@@ -1,7 +1,7 @@
 -- A closed card that is acceptable and within its limits is one of which the depth can be taken.
-use Rattle.std.proofs.Common.{◌≡◌, ℕ, length, subst, arith}
+use Rattle.std.proofs.Common.{ℕ, length, subst, arith}
 use Rattle.temporal.specs.Game.{Spec}
-use Rattle.tableau.specs.Card.{CardKind, closed, kind_of, move_at}
+use Rattle.tableau.specs.Card.{CardKind, closed, move_at}
 use Rattle.tableau.specs.Acceptable.{WithinLimits, AcceptableClosed, TargetKept}
 use Rattle.records.specs.Raw.{RawCard, model}
 use Rattle.card.proofs.Model.{model_nodes}

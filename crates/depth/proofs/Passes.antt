@@ -1,5 +1,5 @@
 -- The pass from the last node to the first: what the array of depths holds.
-use Rattle.std.proofs.Common.{◌≡◌, ℕ, suc, ◌+◌, ◌-◌, ◌^◌, ◌<◌, ◌≤◌, min, List, length, set, Some, sym, ap, ◌∙◌, subst, inl, inr, eq-zero-or-pos, eq-or-lt_of_le, arith, get_or-set_other, get_or-set_same}
+use Rattle.std.proofs.Common.{◌≡◌, ℕ, ◌+◌, ◌-◌, ◌^◌, ◌<◌, ◌≤◌, min, List, length, set, Some, sym, ap, ◌∙◌, subst, inl, inr, eq-zero-or-pos, eq-or-lt_of_le, arith, get_or-set_other, get_or-set_same}
 use Rattle.std.specs.List.{slice_get}
 use Rattle.tableau.specs.Card.{Node, closed, move_at, moves_of}
 use Rattle.tableau.specs.Judge.{deepest, depth_in, depth_at}

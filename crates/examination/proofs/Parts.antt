@@ -1,16 +1,15 @@
 -- What examining gives, from what reading and checking answer.
-use Rattle.std.proofs.Common.{◌≡◌, ℕ, ◌≤◌, Bool, true, false, cond, ◌||◌, ltb, List, IsErrAnd, Ok, Err, Result, sym, refl, ap, ◌∙◌, arith}
-use Rattle.std.proofs.lemmas.Bool.{ltb-false, le-ltb}
+use Rattle.std.proofs.Common.{◌≡◌, ℕ, Bool, true, false, cond, ◌||◌, ltb, List, IsErrAnd, Ok, Err, Result, sym, refl, ap, ◌∙◌, arith}
+use Rattle.std.proofs.lemmas.Bool.{ltb-false}
 use Rattle.faults.specs.declared.Buffer.TheVariants as buffer
 use Rattle.faults.specs.declared.Fault.{Fault as ReadFault}
 use Rattle.faults.specs.declared.Fault.TheVariants as reading
 use Rattle.faults.specs.declared.card.CardFault.{CardFault}
 use Rattle.faults.specs.declared.card.CardFault.TheVariants.{Short}
-use Rattle.tableau.specs.Conditions.{Fault}
-use Rattle.tableau.specs.Judge.{Verdict, judge}
+use Rattle.tableau.specs.Judge.{judge}
 use Rattle.records.specs.Raw.{RawCard, model}
 use Rattle.rules.specs.declared.specification.Specification.{Specification}
-use Rattle.rules.specs.Read.{View, reads, reads_with}
+use Rattle.rules.specs.Read.{reads, reads_with}
 use Rattle.rules.specs.Laws.{game_of}
 use Rattle.rules.specs.Shown.{view}
 use Rattle.judged.specs.Judged.{fault_of}
@@ -20,9 +19,9 @@ use Rattle.marking.specs.Checks.{checks}
 use Rattle.marking.proofs.Judging.{judged}
 use Rattle.examination.specs.declared.examine.Examined.{Examined}
 use Rattle.examination.specs.declared.fault.MarkFault.{MarkFault}
-use Rattle.examination.specs.declared.fault.MarkFault.TheVariants.{Text, Card}
+use Rattle.examination.specs.declared.fault.MarkFault.TheVariants.{Card}
 use Rattle.examination.specs.Faults.{from_text}
-use Rattle.examination.specs.Examined.{Passed, Refusal, bad_text, bad_card, sized, judged_for, enough_slots, examines, examined_as}
+use Rattle.examination.specs.Examined.{bad_card, sized, judged_for, enough_slots, examines, examined_as}
 
 -- ── the sizes of the indexes ──
 none_short : (a b c : Bool) → ◌≡◌ {A = Result (Unit {0}) CardFault} (Ok tt) (cond (a || (b || c)) (Err (Short buffer.Index)) (Ok tt))

@@ -4,7 +4,6 @@ use Rattle.faults.specs.declared.Layer.{Layer}
 use Rattle.faults.specs.declared.Layer.TheVariants as layer
 use Rattle.faults.specs.declared.Fault.{Fault}
 use Rattle.faults.specs.declared.Fault.TheVariants as reading
-use Rattle.faults.specs.declared.card.CardFault.{CardFault}
 use Rattle.faults.specs.declared.card.CardFault.TheVariants.{Short}
 use Rattle.faults.specs.Numbers.{reason_number}
 use Rattle.faults.specs.Cards.{card_fault_number, card_fault_list, card_fault_place}

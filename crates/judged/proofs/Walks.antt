@@ -1,5 +1,5 @@
 -- A loop over places in a row, and the conditions that it judges: what is left of them gives the answer.
-use Rattle.std.proofs.Common.{◌≡◌, ℕ, zero, suc, ◌+◌, ◌-◌, ◌<◌, ◌≤◌, Bool, true, false, cond, List, [], ◌∷◌, ◌++◌, map, Ok, Err, Result, sym, refl, ap, ◌∙◌, subst, arith}
+use Rattle.std.proofs.Common.{◌≡◌, ℕ, suc, ◌+◌, ◌-◌, ◌<◌, ◌≤◌, Bool, true, false, cond, List, [], ◌∷◌, ◌++◌, map, Ok, Err, Result, ap, ◌∙◌, arith}
 use Rattle.tableau.specs.Lists.{span, concat_map}
 use Rattle.tableau.specs.Judge.{checked, after}
 use Rattle.tableau.proofs.Order.{checked_append}

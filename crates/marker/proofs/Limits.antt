@@ -1,11 +1,10 @@
 -- Counts and depth of an accepted card fit 16 bits.
-use Rattle.std.proofs.Common.{◌≡◌, ℕ, ◌≤◌, min, Bool, true, false, cond, ltb, length, Ok, Err, Result, sym, refl, ap, ◌∙◌, arith}
+use Rattle.std.proofs.Common.{◌≡◌, ℕ, ◌≤◌, min, Bool, true, false, cond, ltb, length, Ok, Err, refl, ap, ◌∙◌, arith}
 use Rattle.std.proofs.lemmas.Bool.{ltb-false}
 use Rattle.faults.specs.declared.Buffer.TheVariants as buffer
 use Rattle.faults.specs.declared.card.CardFault.TheVariants.{Short}
 use Rattle.temporal.specs.Game.{Spec}
 use Rattle.tableau.specs.Card.{Card, CardKind, opened, closed, kind_of, moves_of}
-use Rattle.tableau.specs.Conditions.{Fault}
 use Rattle.tableau.specs.Judge.{Verdict, judge, depth_of}
 use Rattle.tableau.specs.Acceptable.{Accepted}
 use Rattle.records.specs.Raw.{RawCard, model}
@@ -13,7 +12,7 @@ use Rattle.card.proofs.Model.{model_nodes, model_moves}
 use Rattle.depth.proofs.Rounds.{depth_most}
 use Rattle.judged.specs.Judged.{fault_of}
 use Rattle.marking.specs.Checks.{checks}
-use Rattle.marker.specs.Marks.{accepted_as, checked_card}
+use Rattle.marker.specs.Marks.{accepted_as}
 
 pub slots_enough : (n : ℕ) (spec : Spec) (c : Card) (r : Verdict × ℕ) → Ok r ≡ checks n spec c → 2048 ≤ n
 slots_enough n spec c r h = go (ltb n 2048) refl h

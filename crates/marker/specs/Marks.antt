@@ -11,7 +11,7 @@ use Rattle.rules.specs.Read.{View, reads_with}
 use Rattle.rules.specs.Laws.{game_of}
 use Rattle.marking.specs.Checks.{checks}
 use Rattle.outcome.specs.declared.Outcome.{Outcome}
-use Rattle.outcome.specs.declared.Outcome.TheVariants.{Realizable, Unrealizable, TextRefused, CardRefused}
+use Rattle.outcome.specs.declared.Outcome.TheVariants.{Realizable, Unrealizable, CardRefused}
 use Rattle.outcome.specs.Refusals.{text_refusal, card_refusal}
 
 -- an accepted card with a verdict, a depth, so many nodes and so many moves

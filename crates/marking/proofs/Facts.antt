@@ -1,20 +1,19 @@
 -- What is known of a card whose conditions before the root are kept.
-use Rattle.std.proofs.Common.{◌≡◌, ℕ, ◌<◌, ◌≤◌, Bool, true, List, [], ◌∷◌, ◌++◌, map, length, Some, None, Ok, Err, Option, Result, sym, refl, ap, ◌∙◌, subst, append_assoc, arith}
+use Rattle.std.proofs.Common.{◌≡◌, ℕ, ◌<◌, ◌≤◌, true, List, [], ◌∷◌, ◌++◌, map, length, Some, None, Ok, Err, Option, Result, sym, refl, ap, ◌∙◌, subst, append_assoc, arith}
 use Rattle.temporal.specs.Game.{Spec}
 use Rattle.temporal.proofs.Tells.{self_tells}
 use Rattle.temporal.proofs.Truth.{and_out}
-use Rattle.tableau.specs.Lists.{span, all}
+use Rattle.tableau.specs.Lists.{span}
 use Rattle.tableau.specs.Card.{Card, node_at, move_at}
 use Rattle.tableau.specs.Form.{move_formed}
-use Rattle.tableau.specs.Conditions.{Condition, kept, fault, formula_count, label_count, node_count, move_count, kind_known}
+use Rattle.tableau.specs.Conditions.{Condition, kept, fault, formula_count}
 use Rattle.tableau.specs.Conditions.{formula_form, label_form, node_form, move_form, new_formula, spec_listed, before_root, Fault, fault_at}
-use Rattle.tableau.specs.Judge.{judged_by, checked, after}
+use Rattle.tableau.specs.Judge.{judged_by, after}
 use Rattle.tableau.specs.Acceptable.{Kept, NodeFormed}
 use Rattle.tableau.proofs.Tests.{below_tells, map_tells}
 use Rattle.tableau.proofs.Kept.{kept_tells}
 use Rattle.tableau.proofs.Order.{checked_append, checked_ok}
 use Rattle.records.specs.Raw.{RawCard, model}
-use Rattle.records.specs.Table.{Table}
 use Rattle.card.proofs.Model.{model_formulas, model_nodes, model_moves}
 use Rattle.formed.specs.Conditions.{count_conditions, form_conditions}
 use Rattle.steps.specs.Sets.{Labelled}

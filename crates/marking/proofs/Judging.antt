@@ -1,5 +1,5 @@
 -- The judge, from its parts; and what its answer means.
-use Rattle.std.proofs.Common.{◌≡◌, ℕ, ◌<◌, ◌≤◌, Bool, true, false, cond, ltb, List, length, IsErrAnd, Ok, Err, Result, sym, refl, ap, ◌∙◌, subst, arith}
+use Rattle.std.proofs.Common.{◌≡◌, ℕ, ◌≤◌, Bool, true, false, cond, ltb, length, IsErrAnd, Ok, Err, Result, sym, refl, ap, ◌∙◌, subst, arith}
 use Rattle.std.proofs.lemmas.Bool.{le-ltb, ltb-false}
 use Rattle.faults.specs.declared.Buffer.{Buffer}
 use Rattle.faults.specs.declared.Buffer.TheVariants as buffer
@@ -10,12 +10,11 @@ use Rattle.temporal.proofs.Runs.{never_both}
 use Rattle.tableau.specs.Card.{Card, CardKind, closed, kind_of, move_at}
 use Rattle.tableau.specs.Conditions.{Fault, before_root, at_root, at_nodes}
 use Rattle.tableau.specs.Judge.{Verdict, realizable, unrealizable, verdict_of, depth_of, judged_by, judge, after}
-use Rattle.tableau.specs.Acceptable.{Acceptable, TargetKept}
+use Rattle.tableau.specs.Acceptable.{TargetKept}
 use Rattle.tableau.proofs.Order.{accepts, refuses}
 use Rattle.tableau.proofs.Laws.{verdict_names_winner}
 use Rattle.records.specs.Raw.{RawCard, model}
 use Rattle.card.proofs.Model.{model_nodes}
-use Rattle.depth.specs.Descending.{Descending}
 use Rattle.judged.specs.Judged.{fault_of}
 use Rattle.marking.specs.declared.verdict.Marked.{Marked}
 use Rattle.marking.specs.Verdicts.{DepthKnown}

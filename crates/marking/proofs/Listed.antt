@@ -1,5 +1,5 @@
 -- From what is known once all before the root has been judged to what the root and the nodes are judged by.
-use Rattle.std.proofs.Common.{◌≡◌, ℕ, ◌<◌, ◌≤◌, List, length, sym, ap, ◌∙◌, subst}
+use Rattle.std.proofs.Common.{◌≡◌, ℕ, ◌<◌, ◌≤◌, List, length, sym, subst}
 use Rattle.temporal.specs.Formula.{top}
 use Rattle.temporal.specs.Game.{Spec}
 use Rattle.tableau.specs.Card.{kind_of}
@@ -12,7 +12,6 @@ use Rattle.rested.specs.Listing.{Ready}
 use Rattle.steps.specs.declared.entries.Kind.{Kind}
 use Rattle.steps.specs.Named.{kind_named}
 use Rattle.marking.specs.declared.listing.Listing.{Listing}
-use Rattle.marking.specs.declared.terms.Terms.{Terms}
 use Rattle.marking.specs.Listings.{ListedAs}
 use Rattle.marking.specs.Nodes.{Known}
 

@@ -1,34 +1,32 @@
 -- Conditions at single places, from what the code asked and computed.
-use Rattle.std.proofs.Common.{◌≡◌, ℕ, ◌<◌, Bool, true, false, not, eqb, List, [], ◌∷◌, map, length, IsErrAnd, Some, None, Ok, Err, Option, Result, sym, refl, ap, ◌∙◌, subst, arith, eq-eqb, eqb-true}
+use Rattle.std.proofs.Common.{◌≡◌, ℕ, ◌<◌, Bool, true, false, not, eqb, List, [], ◌∷◌, length, IsErrAnd, Some, None, Ok, Err, Option, Result, sym, refl, ap, ◌∙◌, subst, arith, eq-eqb, eqb-true}
 use Rattle.temporal.specs.Formula.{Formula, bot, Reading, same}
 use Rattle.temporal.specs.Game.{Spec}
-use Rattle.temporal.proofs.Same.{same_sound, same_refl}
-use Rattle.tableau.specs.Lists.{all}
+use Rattle.temporal.proofs.Same.{same_sound}
 use Rattle.tableau.specs.Moves.{Move, Target}
-use Rattle.tableau.specs.Met.{met, rests}
+use Rattle.tableau.specs.Met.{rests}
 use Rattle.tableau.specs.Card.{CardKind, opened, closed, kind_of, label_at, move_at}
-use Rattle.tableau.specs.Conditions.{Condition, kept, fault, fault_at, Fault, keeps_label, keeps_target, label_kept, target_kept, rests_kept, step_kept, reading_of, keeps_step, obligations, at_move}
+use Rattle.tableau.specs.Conditions.{kept, fault, fault_at, Fault, keeps_label, keeps_target, label_kept, target_kept, rests_kept, step_kept, reading_of, keeps_step, obligations, at_move}
 use Rattle.tableau.specs.Judge.{judged_by}
 use Rattle.faults.specs.declared.card.CardFault.{CardFault}
 use Rattle.index.specs.declared.Slot.{Slot}
 use Rattle.records.specs.declared.FormulaRecord.{FormulaRecord}
 use Rattle.records.specs.declared.MoveRecord.{MoveRecord}
 use Rattle.records.specs.Raw.{RawCard, model, move_of, target_of}
-use Rattle.records.specs.Table.{Table, Listed, formulas_of, formula_of}
+use Rattle.records.specs.Table.{formula_of}
 use Rattle.card.proofs.Model.{model_nodes}
-use Rattle.covered.specs.Meaning.{Members}
 use Rattle.covered.proofs.Formulas.{different_formulas, first_formula}
 use Rattle.covered.proofs.Holding.{same_test}
 use Rattle.rested.specs.declared.key.FormulaKey.{FormulaKey}
 use Rattle.rested.specs.Listing.{Ready}
-use Rattle.rested.specs.Rests.{has_all, AllRested}
+use Rattle.rested.specs.Rests.{AllRested}
 use Rattle.steps.specs.declared.entries.Kind.{Kind}
 use Rattle.steps.specs.Named.{kind_named}
 use Rattle.steps.specs.Sets.{Labelled, RestsOf, TakesRests}
 use Rattle.steps.specs.Steps.{TellsStep}
 use Rattle.steps.proofs.Labels.{label_below}
 use Rattle.steps.proofs.Roots.{listed_as, members_as}
-use Rattle.judged.specs.Judged.{fault_of, judgment, Judges}
+use Rattle.judged.specs.Judged.{fault_of, judgment}
 use Rattle.judged.proofs.Walks.{judged_pass, judged_fail}
 use Rattle.marking.specs.Tests.{label_number_kept}
 use Rattle.marking.specs.Nodes.{Prepared}

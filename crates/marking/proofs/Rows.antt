@@ -1,5 +1,5 @@
 -- The conditions of a node, by its record.
-use Rattle.std.proofs.Common.{◌≡◌, ℕ, ◌+◌, ◌<◌, ◌≤◌, Bool, List, [], ◌∷◌, ◌++◌, map, length, sym, refl, ap, ◌∙◌, subst, arith}
+use Rattle.std.proofs.Common.{◌≡◌, ℕ, ◌+◌, ◌<◌, Bool, List, [], ◌∷◌, ◌++◌, map, length, sym, ap, ◌∙◌, subst, arith}
 use Rattle.temporal.specs.Formula.{Formula}
 use Rattle.temporal.specs.Game.{Spec}
 use Rattle.tableau.specs.Lists.{span, concat_map}

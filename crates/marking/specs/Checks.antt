@@ -1,5 +1,5 @@
 -- What checking a card answers, and what that means.
-use Rattle.std.specs.Prelude.{◌≡◌, ℕ, ◌<◌, ◌≤◌, cond, Ok, Err, Result, nat_lt}
+use Rattle.std.specs.Prelude.{ℕ, cond, Ok, Err, Result, nat_lt}
 use Rattle.faults.specs.declared.Buffer.TheVariants as buffer
 use Rattle.faults.specs.declared.card.CardFault.{CardFault}
 use Rattle.faults.specs.declared.card.CardFault.TheVariants.{Short}

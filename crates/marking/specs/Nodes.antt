@@ -3,7 +3,7 @@ use Rattle.std.specs.Prelude.{◌≡◌, ℕ, ◌<◌, ◌≤◌, Bool, true, Li
 use Rattle.temporal.specs.Formula.{top}
 use Rattle.temporal.specs.Game.{Spec}
 use Rattle.tableau.specs.Lists.{span, concat_map}
-use Rattle.tableau.specs.Card.{CardKind, kind_of, node_at, move_at}
+use Rattle.tableau.specs.Card.{kind_of, node_at, move_at}
 use Rattle.tableau.specs.Conditions.{label_kept, covering_kept, target_kept, at_move, at_node, at_nodes, obligations}
 use Rattle.tableau.specs.Form.{move_formed}
 use Rattle.tableau.specs.Acceptable.{NodeFormed}

@@ -1,9 +1,8 @@
 -- Marking the formulas of a label one by one.
-use Rattle.std.proofs.Common.{◌≡◌, ℕ, zero, suc, ◌+◌, ◌<◌, ◌≤◌, Bool, false, List, [], ◌∷◌, ◌++◌, map, length, get_or, replicate, sym, refl, ap, ◌∙◌, subst, append_assoc, add-one, arith}
+use Rattle.std.proofs.Common.{◌≡◌, ℕ, zero, suc, ◌+◌, ◌<◌, Bool, false, List, [], ◌∷◌, ◌++◌, map, length, get_or, replicate, sym, refl, ap, ◌∙◌, subst, append_assoc, add-one, arith}
 use native.Mathlib.Decide.{dec_lt}
 use Rattle.std.proofs.lemmas.List.{get_or_past}
 use Rattle.temporal.specs.Formula.{Formula}
-use Rattle.temporal.specs.Parts.{◌∈◌}
 use Rattle.temporal.specs.Game.{Spec}
 use Rattle.temporal.proofs.Lists.{map_in, cast}
 use Rattle.tableau.specs.Lists.{span}
@@ -11,8 +10,8 @@ use Rattle.tableau.specs.Card.{label_at, label_tree}
 use Rattle.records.specs.declared.FormulaRecord.{FormulaRecord}
 use Rattle.records.specs.declared.NodeRecord.{NodeRecord}
 use Rattle.records.specs.Raw.{RawCard, model}
-use Rattle.records.specs.Table.{Listed, formulas_of, formula_of}
-use Rattle.covered.specs.Marks.{marked, mark}
+use Rattle.records.specs.Table.{Listed}
+use Rattle.covered.specs.Marks.{mark}
 use Rattle.covered.specs.Meaning.{Members}
 use Rattle.covered.proofs.Members.{members_more, members_none, formula_listed}
 use Rattle.steps.specs.Sets.{Labelled, label_in}

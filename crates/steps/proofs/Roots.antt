@@ -1,15 +1,13 @@
 -- The root and the step, from marks to the judge's tests.
-use Rattle.std.proofs.Common.{◌≡◌, ℕ, ◌<◌, ◌≤◌, Bool, true, false, ◌⊎◌, List, [], ◌∷◌, ◌++◌, map, length, replicate, sym, refl, ap, ◌∙◌, subst, inl, inr, arith}
+use Rattle.std.proofs.Common.{◌≡◌, ℕ, ◌<◌, Bool, false, List, [], ◌∷◌, map, length, replicate, sym, ap, ◌∙◌, subst, inl, inr, arith}
 use Rattle.std.proofs.lemmas.List.{length-replicate}
 use Rattle.temporal.specs.Formula.{Formula, bot}
 use Rattle.temporal.specs.Parts.{◌∈◌, member}
 use Rattle.temporal.specs.Game.{Spec}
 use Rattle.temporal.proofs.Lists.{one_member, cast, in_cons}
-use Rattle.tableau.specs.Lists.{span, all}
-use Rattle.tableau.specs.Moves.{end, node}
-use Rattle.tableau.specs.Cover.{held, covers}
-use Rattle.tableau.specs.Card.{Node, Card, CardKind, opened, closed, kind_of, node_at, label_tree, label_of}
-use Rattle.tableau.specs.Conditions.{keeps_root, keeps_step}
+use Rattle.tableau.specs.Lists.{span}
+use Rattle.tableau.specs.Cover.{held}
+use Rattle.tableau.specs.Card.{Node, node_at, label_tree, label_of}
 use Rattle.records.specs.declared.FormulaRecord.{FormulaRecord}
 use Rattle.records.specs.declared.NodeRecord.{NodeRecord}
 use Rattle.records.specs.Raw.{RawCard, model, node_of}
@@ -18,8 +16,7 @@ use Rattle.covered.specs.Marks.{marked, mark}
 use Rattle.covered.specs.Meaning.{Members, Covers, MarksHeld, MarksCoveredBy}
 use Rattle.covered.proofs.Formulas.{first_formula}
 use Rattle.covered.proofs.Members.{members_more, formula_listed}
-use Rattle.steps.specs.Sets.{Labelled, label_in, TellsCovered, MarksLabel}
-use Rattle.steps.specs.Steps.{TellsStep}
+use Rattle.steps.specs.Sets.{Labelled, label_in, MarksLabel}
 use Rattle.steps.proofs.Labels.{label_listed, members_of_none}
 
 -- a node's record gives its label

@@ -1,4 +1,4 @@
-use Rattle.std.proofs.Common.{◌≡◌, ◌≤◌, length, sym, ap, ◌∙◌}
+use Rattle.std.proofs.Common.{◌≤◌, length, ap, ◌∙◌}
 use Rattle.records.specs.Raw.{model}
 use Rattle.rules.specs.Laws.{game_of}
 use Rattle.rules.specs.Shown.{view}

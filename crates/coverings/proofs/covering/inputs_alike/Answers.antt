@@ -1,4 +1,4 @@
-use Rattle.std.proofs.Common.{◌≡◌, sym, ap, ◌∙◌}
+use Rattle.std.proofs.Common.{sym, ap, ◌∙◌}
 use Rattle.tableau.specs.Lists.{all}
 use Rattle.tableau.specs.Moves.{Move}
 use Rattle.tableau.specs.Conditions.{same_input}

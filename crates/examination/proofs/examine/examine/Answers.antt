@@ -1,7 +1,4 @@
-use Rattle.std.proofs.Common.{◌≡◌, length, sym, ap, ◌∙◌, arith}
-use Rattle.records.specs.Raw.{model}
-use Rattle.rules.specs.Laws.{game_of}
-use Rattle.rules.specs.Shown.{view}
+use Rattle.std.proofs.Common.{length}
 use Rattle.examination.proofs.Parts.{text_refused, card_refused, passed}
 use Rattle.examination.proofs.examine.examine.Goals as goal
 

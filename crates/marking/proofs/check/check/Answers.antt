@@ -1,20 +1,12 @@
-use Rattle.std.proofs.Common.{◌≡◌, ℕ, ◌<◌, ◌≤◌, ltb, List, length, Ok, Err, sym, ap, ◌∙◌, subst}
-use Rattle.faults.specs.declared.Buffer.TheVariants as buffer
-use Rattle.faults.specs.declared.card.CardFault.{CardFault}
-use Rattle.faults.specs.declared.card.CardFault.TheVariants.{Short}
-use Rattle.temporal.specs.Game.{Spec}
-use Rattle.tableau.specs.Judge.{judged_by}
-use Rattle.records.specs.declared.FormulaRecord.{FormulaRecord}
-use Rattle.records.specs.Raw.{RawCard, model}
-use Rattle.rules.specs.Laws.{game_of, SoundView}
+use Rattle.std.proofs.Common.{◌≡◌, ℕ, ◌≤◌, length, Ok, sym, ap, ◌∙◌, subst}
+use Rattle.records.specs.Raw.{model}
+use Rattle.rules.specs.Laws.{game_of}
 use Rattle.rules.specs.Shown.{view}
 use Rattle.rules.proofs.Sound.{spec_sound}
 use Rattle.judged.specs.Judged.{fault_of}
-use Rattle.marking.specs.Listings.{ListedAs}
-use Rattle.marking.specs.Nodes.{Known}
 use Rattle.marking.specs.Checks.{checked_as, checks}
 use Rattle.marking.proofs.Listed.{initial_below, initial_is, known_here}
-use Rattle.marking.proofs.Judging.{before_fails, root_fails, nodes_fail, all_pass, depth_known, judged, too_short, meaning_of, handed_check, slots_enough, short_handed}
+use Rattle.marking.proofs.Judging.{before_fails, root_fails, nodes_fail, all_pass, depth_known, judged, meaning_of, handed_check, slots_enough, short_handed}
 use Rattle.marking.proofs.check.check.Goals as goal
 
 pub returns-in_err-enough_slots : goal.returns-in_err-enough_slots

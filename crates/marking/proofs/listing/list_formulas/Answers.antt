@@ -1,4 +1,4 @@
-use Rattle.std.proofs.Common.{◌≡◌, ℕ, ◌≤◌, List, map, length, take, Some, Ok, Err, sym, ap, ◌∙◌, arith, take_all}
+use Rattle.std.proofs.Common.{◌≡◌, ◌≤◌, List, map, length, take, Ok, sym, ap, ◌∙◌, arith, take_all}
 use Rattle.std.proofs.lemmas.Result.{MatchResult-from_err}
 use Rattle.temporal.specs.Game.{Spec}
 use Rattle.tableau.specs.Judge.{judged_by}
@@ -9,9 +9,8 @@ use Rattle.rules.specs.Shown.{view}
 use Rattle.formed.specs.Conditions.{count_conditions, form_conditions}
 use Rattle.formed.specs.Copied.{records_of}
 use Rattle.judged.specs.Judged.{fault_of}
-use Rattle.marking.specs.Listings.{ListedAs}
 use Rattle.marking.proofs.Places.{handed, refused}
-use Rattle.marking.proofs.Facts.{news, few_formulas, counts_fail, forms_fail, news_fail, unlisted, all_listed, known, ready_for, news_as}
+use Rattle.marking.proofs.Facts.{few_formulas, counts_fail, forms_fail, news_fail, unlisted, all_listed, known, ready_for, news_as}
 use Rattle.marking.proofs.listing.list_formulas.Goals as goal
 
 pub returns-in_err-counts_right : goal.returns-in_err-counts_right

@@ -1,4 +1,4 @@
-use Rattle.std.proofs.Common.{◌+◌, sym, ◌∙◌, arith}
+use Rattle.std.proofs.Common.{◌+◌, sym, ◌∙◌}
 use Rattle.tableau.specs.Conditions.{kept, fault, label_kept}
 use Rattle.records.specs.Raw.{model}
 use Rattle.judged.proofs.Walks.{walk_start, walk_pass, walk_fail, walk_end}

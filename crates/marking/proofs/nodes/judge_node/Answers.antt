@@ -1,6 +1,5 @@
-use Rattle.std.proofs.Common.{◌≡◌, List, [], ◌∷◌, ◌++◌, length, Ok, sym, ap, ◌∙◌}
-use Rattle.tableau.specs.Conditions.{Condition, kept, fault, covering_kept}
-use Rattle.tableau.specs.Judge.{judged_by}
+use Rattle.std.proofs.Common.{[], ◌∷◌, ◌++◌, sym, ◌∙◌}
+use Rattle.tableau.specs.Conditions.{kept, fault, covering_kept}
 use Rattle.records.specs.Raw.{model, node_of}
 use Rattle.judged.specs.Judged.{fault_of}
 use Rattle.judged.proofs.Walks.{group_pass, group_fail}

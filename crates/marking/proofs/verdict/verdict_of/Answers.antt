@@ -1,8 +1,7 @@
-use Rattle.std.proofs.Common.{◌≡◌, ℕ, sym, ap, ◌∙◌}
-use Rattle.tableau.specs.Card.{CardKind, opened, closed, kind_of}
-use Rattle.tableau.specs.Judge.{Verdict, verdict_of, depth_of, unrealizable}
+use Rattle.std.proofs.Common.{ℕ, sym, ap, ◌∙◌}
+use Rattle.tableau.specs.Card.{CardKind}
+use Rattle.tableau.specs.Judge.{verdict_of, depth_of, unrealizable}
 use Rattle.records.specs.Raw.{model}
-use Rattle.marking.specs.declared.verdict.Marked.{Marked}
 use Rattle.marking.specs.Verdicts.{marked_as}
 use Rattle.marking.proofs.verdict.verdict_of.Goals as goal
 

@@ -1,4 +1,4 @@
-use Rattle.std.proofs.Common.{◌≡◌, ◌<◌, List, [], ◌∷◌, length, sym, ap, ◌∙◌, subst, arith}
+use Rattle.std.proofs.Common.{◌≡◌, ◌<◌, List, [], ◌∷◌, length, sym, ap, ◌∙◌, subst}
 use Rattle.temporal.specs.Formula.{Formula}
 use Rattle.tableau.specs.Cover.{covers}
 use Rattle.tableau.specs.Lists.{all}
@@ -7,8 +7,7 @@ use Rattle.tableau.specs.Conditions.{keeps_root}
 use Rattle.records.specs.Raw.{model}
 use Rattle.records.specs.Table.{formula_of}
 use Rattle.records.specs.declared.FormulaRecord.{FormulaRecord}
-use Rattle.covered.specs.Marks.{mark}
-use Rattle.covered.specs.Meaning.{Members, Covers, MarksCoveredBy}
+use Rattle.covered.specs.Meaning.{Members, Covers}
 use Rattle.steps.proofs.Roots.{label_covers, label_members, label_listed_at, one_listed, one_members, covered_as}
 use Rattle.steps.proofs.kept.root_kept.Goals as goal
 

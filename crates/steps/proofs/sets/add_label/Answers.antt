@@ -1,4 +1,4 @@
-use Rattle.std.proofs.Common.{◌≡◌, ℕ, List, [], ◌++◌, map, length, sym, ap, ◌∙◌, subst, append-nil, arith}
+use Rattle.std.proofs.Common.{◌≡◌, ℕ, List, ◌++◌, map, length, sym, ap, ◌∙◌, subst, append-nil, arith}
 use Rattle.temporal.specs.Formula.{Formula}
 use Rattle.tableau.specs.Lists.{span}
 use Rattle.tableau.specs.Card.{label_tree}
