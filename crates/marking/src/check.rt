@@ -9,7 +9,7 @@ ghost use Rattle.marking.specs.Roots.{JudgesRoot, enough};
 
 use crate::leaves::root_wrong;
 use crate::listing::list_formulas;
-use crate::nodes::judge_nodes;
+use crate::node_by_node::judge_nodes;
 use crate::terms::Terms;
 use crate::verdict::{Marked, verdict_of};
 use card::source::CardSource;

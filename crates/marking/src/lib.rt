@@ -4,6 +4,6 @@
 pub mod check;
 mod leaves;
 mod listing;
-mod nodes;
+mod node_by_node;
 mod terms;
 pub mod verdict;

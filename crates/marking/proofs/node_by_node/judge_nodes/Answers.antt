@@ -6,7 +6,7 @@ use Rattle.card.proofs.Model.{model_nodes}
 use Rattle.judged.specs.Judged.{fault_of}
 use Rattle.judged.proofs.Walks.{groups_start, groups_pass, groups_fail, groups_end}
 use Rattle.marking.proofs.Places.{handed}
-use Rattle.marking.proofs.nodes.judge_nodes.Goals as goal
+use Rattle.marking.proofs.node_by_node.judge_nodes.Goals as goal
 
 pub loop-n-init : goal.loop-n-init
 loop-n-init g c spec k =

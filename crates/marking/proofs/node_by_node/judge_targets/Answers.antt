@@ -3,7 +3,7 @@ use Rattle.tableau.specs.Conditions.{kept, fault, target_kept}
 use Rattle.records.specs.Raw.{model}
 use Rattle.judged.proofs.Walks.{walk_start, walk_pass, walk_fail, walk_end}
 use Rattle.marking.proofs.Places.{refused, target_judged}
-use Rattle.marking.proofs.nodes.judge_targets.Goals as goal
+use Rattle.marking.proofs.node_by_node.judge_targets.Goals as goal
 use Rattle.steps.specs.Named.{target_named}
 
 pub loop-k-init : goal.loop-k-init

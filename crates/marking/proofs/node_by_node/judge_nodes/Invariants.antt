@@ -5,7 +5,7 @@ use Rattle.tableau.specs.Judge.{judged_by}
 use Rattle.records.specs.Raw.{model}
 use Rattle.judged.proofs.Walks.{grouped}
 use Rattle.marking.specs.Nodes.{Known}
-use Rattle.marking.proofs.nodes.judge_nodes.Given as goal
+use Rattle.marking.proofs.node_by_node.judge_nodes.Given as goal
 
 -- what is left to judge gives the answer
 abbrev pub invariant-loop-n : goal.invariant-loop-n

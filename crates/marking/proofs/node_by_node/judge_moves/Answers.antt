@@ -4,7 +4,7 @@ use Rattle.records.specs.Raw.{model}
 use Rattle.judged.specs.Judged.{fault_of}
 use Rattle.judged.proofs.Walks.{groups_start, groups_pass, groups_fail, groups_end}
 use Rattle.marking.proofs.Places.{handed}
-use Rattle.marking.proofs.nodes.judge_moves.Goals as goal
+use Rattle.marking.proofs.node_by_node.judge_moves.Goals as goal
 
 pub loop-k-init : goal.loop-k-init
 loop-k-init g c spec n p =

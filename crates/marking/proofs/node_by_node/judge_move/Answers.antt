@@ -1,7 +1,7 @@
 use Rattle.std.proofs.Common.{Some, sym, ◌∙◌}
 use Rattle.steps.specs.Named.{target_named}
 use Rattle.marking.proofs.Places.{refused, rests_judged, rests_refused, step_refused, step_passed}
-use Rattle.marking.proofs.nodes.judge_move.Goals as goal
+use Rattle.marking.proofs.node_by_node.judge_move.Goals as goal
 
 pub returns-in_default : goal.returns-in_default
 returns-in_default g c spec n p =

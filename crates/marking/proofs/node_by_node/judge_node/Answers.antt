@@ -5,7 +5,7 @@ use Rattle.judged.specs.Judged.{fault_of}
 use Rattle.judged.proofs.Walks.{group_pass, group_fail}
 use Rattle.marking.proofs.Places.{handed}
 use Rattle.marking.proofs.Rows.{labels_by, targets_by, moves_by, node_is, splitting, prepared}
-use Rattle.marking.proofs.nodes.judge_node.Goals as goal
+use Rattle.marking.proofs.node_by_node.judge_node.Goals as goal
 
 pub returns-in_err-judge_labels : goal.returns-in_err-judge_labels
 returns-in_err-judge_labels g c spec k l =

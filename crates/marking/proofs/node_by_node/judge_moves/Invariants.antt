@@ -6,7 +6,7 @@ use Rattle.tableau.specs.Judge.{judged_by}
 use Rattle.records.specs.Raw.{model}
 use Rattle.judged.proofs.Walks.{grouped}
 use Rattle.marking.specs.Nodes.{Prepared}
-use Rattle.marking.proofs.nodes.judge_moves.Given as goal
+use Rattle.marking.proofs.node_by_node.judge_moves.Given as goal
 
 -- what is left to judge gives the answer
 abbrev pub invariant-loop-k : goal.invariant-loop-k

@@ -4,7 +4,7 @@ use Rattle.records.specs.Raw.{model}
 use Rattle.judged.proofs.Walks.{judged_pass, judged_fail}
 use Rattle.marking.proofs.Places.{refused}
 use Rattle.marking.proofs.Rows.{covering_judged}
-use Rattle.marking.proofs.nodes.judge_covering.Goals as goal
+use Rattle.marking.proofs.node_by_node.judge_covering.Goals as goal
 
 pub returns-then-not-covering_kept : goal.returns-then-not-covering_kept
 returns-then-not-covering_kept g c spec ready e =

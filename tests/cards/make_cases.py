@@ -1,0 +1,124 @@
+#!/usr/bin/env python3
+"""Makes what the programs `mark` and `mark_cases` are run on by the gate: the eight worked cards, each with its rules text.
+
+A card file is written here by the layout of docs/card.md, and shares no code with the library. The outcome of each card is the one that
+crate `worked_cards` proves of it.
+"""
+import pathlib
+import shutil
+import struct
+
+CRATES = pathlib.Path(__file__).resolve().parents[2] / "crates"
+P, S = 0, 16  # the variables p_e and s
+END = 65535
+FALSE, TRUE = (0, 0, 0, 0, 0, 0), (1, 0, 0, 0, 0, 0)
+
+
+def of(variable):
+    return (2, variable, 0, 0, 0, 0)
+
+
+def not_of(variable):
+    return (3, variable, 0, 0, 0, 0)
+
+
+def conj(a, b):
+    return (4, 0, a, b, 0, 0)
+
+
+def disj(a, b):
+    return (5, 0, a, b, 0, 0)
+
+
+def later(n, a):
+    return (6, 0, a, 0, n, 0)
+
+
+def always(n, m, a):
+    return (7, 0, a, 0, n, m)
+
+
+def card(kind, formulas, labels, nodes, moves):
+    """The bytes of a card file. Nodes: first label, labels, first move, moves. Moves: input mask and values, reply mask and values, target."""
+    lists = [
+        [struct.pack("<BBHHHH", *f) for f in [FALSE, TRUE, *formulas]],
+        [struct.pack("<H", label) for label in labels],
+        [struct.pack("<HHHH", *node) for node in nodes],
+        [struct.pack("<HHHHH", *move) for move in moves],
+    ]
+    trailer, at = [], 0
+    for entries in lists:
+        trailer += [at, len(entries)]
+        at += len(b"".join(entries))
+    return b"".join(b"".join(entries) for entries in lists) + struct.pack("<10H", *trailer, kind, 20)
+
+
+def rules(safety):
+    return b"Initial Formula\nTrue\nSafety Formula\n" + safety + b"\nEnvironment Global Constraints\nTrue\n"
+
+
+OPEN, CLOSED = 1, 2
+LITERALS = [of(S), not_of(S), of(P), not_of(P)]
+
+
+def foreseeing(last):
+    formulas = [*LITERALS, later(1, 4), later(1, 5), conj(2, 6), conj(3, 7), disj(8, 9), *last]
+    moves = [(0, 0, 1, 1, 1), (0, 0, 1, 0, 2), (1, 0, 0, 0, END), (1, 1, 0, 0, END)]
+    return card(CLOSED, formulas, [4, 5], [(0, 0, 0, 2), (0, 1, 2, 1), (1, 1, 3, 1)], moves)
+
+
+def copying_later(label):
+    steps = [later(1, 2), later(1, 4), later(1, 3), later(1, 5), conj(6, 7), conj(8, 9), disj(10, 11)]
+    formulas = [*LITERALS, *steps, conj(2, 4), conj(3, 5), disj(13, 14)]
+    return card(OPEN, formulas, [label], [(0, 0, 0, 1), (0, 1, 1, 2)], [(0, 0, 0, 0, 1), (1, 1, 1, 1, 1), (1, 0, 1, 0, 1)])
+
+
+def holding(label):
+    formulas = [of(S), not_of(P), always(0, 99, 2), disj(3, 4), always(0, 98, 2), always(0, 97, 2)]
+    return card(OPEN, formulas, [label], [(0, 0, 0, 2), (0, 1, 2, 1)], [(1, 0, 0, 0, 0), (1, 1, 1, 1, 1), (0, 0, 1, 1, 1)])
+
+
+COPYING = card(OPEN, [*LITERALS, conj(2, 4), conj(3, 5), disj(6, 7)], [], [(0, 0, 0, 2)], [(1, 0, 1, 0, 0), (1, 1, 1, 1, 0)])
+
+CASES = [
+    ("nothing_keeps_false", b"False", card(CLOSED, [], [], [(0, 0, 0, 1)], [(0, 0, 0, 0, END)]), "unrealizable nodes 1 moves 1 depth 1"),
+    ("copying_the_input", b"s <-> p_e", COPYING, "realizable nodes 1 moves 2"),
+    ("nobody_foresees_the_input", b"s <-> X p_e", foreseeing([disj(4, 5)]), "unrealizable nodes 3 moves 4 depth 2"),
+    ("a_rest_is_not_listed", b"s <-> X p_e", foreseeing([]), "refused 11 list 3 number 2"),
+    ("copying_the_next_input", b"X s <-> X p_e", copying_later(15), "realizable nodes 2 moves 3"),
+    ("a_split_reveals_a_later_input", b"X s <-> X p_e", copying_later(13), "refused 16 list 3 number 2"),
+    ("holding_for_a_hundred_steps", b"p_e -> G[0,99] s", holding(6), "realizable nodes 2 moves 3"),
+    ("holding_one_step_too_short", b"p_e -> G[0,99] s", holding(7), "refused 16 list 3 number 1"),
+]
+# beside the worked cards: a text that is refused is judged before the card, and a card that is missing is an empty file
+OTHERS = [
+    ("the_text_is_judged_first", b"s <-> ?", b"", f"refused 2 byte {rules(b's <-> ?').index(b'?')}"),
+    ("an_empty_card_file", b"s", b"", "refused 8 list 4 number 10"),
+]
+
+
+def fresh(crate):
+    data = CRATES / crate / "data"
+    shutil.rmtree(data, ignore_errors=True)
+    data.mkdir()
+    return data
+
+
+def main():
+    data, out = fresh("mark_cases"), []
+    for name, safety, file, line in CASES + OTHERS:
+        (data / f"{name}.rules").write_bytes(rules(safety))
+        (data / f"{name}.card").write_bytes(file)
+        out += [f"case {name}.rules {name}.card", line]
+    (data / "cases.txt").write_text("".join(f"{name}.rules {name}.card\n" for name, _, _, _ in CASES + OTHERS))
+    (CRATES / "mark_cases" / "stdout").write_text("\n".join(out) + "\n")
+    _, safety, file, line = CASES[1]
+    data = fresh("mark")
+    (data / "rules.txt").write_bytes(rules(safety))
+    (data / "card.bin").write_bytes(file)
+    (CRATES / "mark" / "stdout").write_text(line + "\n")
+    print(f"{len(CASES + OTHERS)} cases")
+
+
+if __name__ == "__main__":
+    main()
