@@ -21,8 +21,13 @@ CHANGES = json.loads((pathlib.Path(__file__).parent / "changes.json").read_text(
 
 
 def checked(folder):
-    run = subprocess.run(["rt", "dev", "tableau"], cwd=folder, stdout=subprocess.PIPE, stderr=subprocess.STDOUT, text=True)
+    run = subprocess.run(["rt", "check"], cwd=folder / "crates" / "tableau", stdout=subprocess.PIPE, stderr=subprocess.STDOUT, text=True)
     return run.stdout
+
+
+def is_proved(said):
+    verdicts = [line for line in said.splitlines() if line.startswith("logic=")]
+    return bool(verdicts) and verdicts[-1].startswith("logic=proved")
 
 
 def main():
@@ -34,7 +39,7 @@ def main():
         for crate in ("temporal", "tableau"):
             shutil.copytree(ROOT / "crates" / crate, copy / "crates" / crate)
         (copy / "crates.txt").write_text("temporal:\ntableau: temporal\n")
-        assert "logic=proved functions" in checked(copy).splitlines()[-1], "the definitions as they are have to be proved"
+        assert is_proved(checked(copy)), "the definitions as they are have to be proved"
         for change in chosen:
             saved = {}
             for edit in change["edits"]:
@@ -44,9 +49,9 @@ def main():
                 assert edit["old"] in text, (change["change"], edit["old"])
                 path.write_text(text.replace(edit["old"], edit["new"], 1))
             out = checked(copy)
-            laws = sorted(set(re.findall(r"fn tableau::(\w+): not proved", out)))
+            laws = sorted(set(re.findall(r"fn tableau::(\w+): no(?:t proved| proof)", out)))
             samples = "worked_cards_have_their_outcomes" in laws
-            refused = "logic=proved functions" not in out.splitlines()[-1]
+            refused = not is_proved(out)
             missed += not refused
             others = [law for law in laws if law != "worked_cards_have_their_outcomes"]
             print(f"{'refused' if refused else 'MISSED '}  {change['change']}: {'samples' if samples else 'no sample'}; laws {', '.join(others) or 'none'}", flush=True)

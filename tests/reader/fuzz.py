@@ -1,7 +1,7 @@
 #!/usr/bin/env python3
 """Random and mutated texts through the compiled program and the second reader.
 
-    fuzz.py [RUNS [SEED]]       after `rt check explain`; stops at the first difference
+    fuzz.py [RUNS [SEED]]       after `rt run` in crates/explain; stops at the first difference
 """
 import pathlib
 import random
@@ -13,7 +13,7 @@ import time
 from make_cases import CASES
 from oracle import explain
 
-PROGRAM = pathlib.Path(__file__).resolve().parents[2] / "target" / "bin" / "explain"
+PROGRAM = pathlib.Path(__file__).resolve().parents[2] / "crates" / "explain" / "out" / "explain"
 PIECES = [b"a", b"b_e", b"s", b"p_e", b"True", b"False", b"-", b"X", b"X[2]", b"G[0,3]", b"F[1,2]", b"G[3,2]", b"&", b"|", b"->", b"<->", b"(", b")",
           b"[", b"]", b",", b"7", b"4096", b" ", b"\n", b"<", b">", b"\0", b"\xff", b"Environment", b"Global", b"Constraints", b"Safety", b"Formula",
           b"Initial", b"abcdefghijklmno", b"abcdefghijklmnop", b"_", b"\t", b"\r"]
