@@ -1,6 +1,6 @@
 -- A line made of pieces, for the proofs of callers. Each piece that a caller adds is one step here, by what the call
 -- ensures, and `made_whole` ends them: a line of text and two numbers `i` and `j` of 16 bits is
---   made-whole (made-u16 j h₄ (made_bytes (codes ",") (made-u16 i h₂ (made_none e₁) e₂) e₃) e₄) (omega arith)
+--   made_whole (made_u16 j h₄ (made_bytes (codes ",") (made_u16 i h₂ (made_none e₁) e₂) e₃) e₄) (omega arith)
 -- where the h are the bounds of the numbers and the e what the calls ensure, in their order.
 use Rattle.std.proofs.Common.{◌≡◌, ℕ, ◌+◌, ◌^◌, ◌<◌, ◌≤◌, List, [], ◌++◌, length, take, decimal, ap, ◌∙◌, arith, length-append}
 use Rattle.std.proofs.lemmas.List.{take_all}
