@@ -1,25 +1,59 @@
 -- Places from a home, and lists read and written by place.
-use Rattle.std.proofs.Common.{◌≡◌, ℕ, zero, suc, ◌+◌, ◌-◌, ◌%◌, ◌<◌, true, cond, ltb, ◌⊎◌, List, [], ◌∷◌, ◌++◌, length, get_or, set, Some, sym, refl, ap, ◌∙◌, inl, inr, ⊎_elim, mod-lt, arith, lt-ltb}
-use Rattle.std.specs.List.{slice_get}
-use Rattle.std.proofs.lemmas.Option.{slice_get_read}
+use Rattle.std.proofs.Common.{◌≡◌, ℕ, zero, suc, ◌+◌, ◌-◌, ◌<◌, ◌≤◌, cond, ltb, ◌⊎◌, List, [], ◌∷◌, ◌++◌, length, get_or, set, Some, is_some, true, false, sym, refl, ap, ◌∙◌, subst, inl, inr, ⊎_elim, arith, length-append}
+use Rattle.std.specs.List.{slice_get, range_with_len}
+use Rattle.std.specs.Iterator.Adapters.{chain_first, chain_second, chain_first_done, chain_second_done, chain_steps}
+use Rattle.std.specs.declared.iter.Chain.{Chain}
+use Rattle.std.specs.declared.ops.Range.{Range}
+use Rattle.std.proofs.iter.Yields.{nat_range_steps}
+use Rattle.std.proofs.lemmas.Iterator.{YieldsList, YieldsList-from_range}
+use Rattle.std.proofs.lemmas.Iterator.Consumers.{YieldsList-from_chain}
+use Rattle.std.proofs.lemmas.List.{get_or_append_left, get_or-append_right}
+use Rattle.std.proofs.lemmas.List.FromFn.{length-range_with_len, get_or-range_with_len}
+use Rattle.std.proofs.lemmas.Option.{same_Some}
+use Rattle.index.specs.declared.Entry.{Entry}
 use Rattle.index.specs.declared.Slot.{Slot}
-use Rattle.index.specs.Keyed.{place, wrapped}
-
-pub home_lt : (c n : ℕ) → 0 < n → c % n < n
-home_lt c n h = mod-lt c h
-
-pub place_start : (n h : ℕ) → h < n → h ≡ place n h 0
-place_start n h lt = let e : ltb (h + 0) n ≡ true = lt-ltb (h + 0) n (omega arith) in rw e (omega arith)
+use Rattle.index.specs.Keyed.{Along, place, slot_of, free_slot, Held}
 
 pub place_lt : (n h d : ℕ) → h < n → d < n → place n h d < n
 place_lt n h d hn dn = grind (arith, place)
 
--- the next place, wrapped
-pub next_place : (n h d at : ℕ) → h < n → d < n → at ≡ place n h d → wrapped at n ≡ place n h (d + 1)
-next_place n h d at hn dn e = grind (arith, place, wrapped)
+-- the places in the order in which a walk from the home h tries them
+abbrev pub order : ℕ → ℕ → List ℕ
+order n h = range_with_len h (n - h) ++ range_with_len 0 h
 
-pub wrapped_lt : (at n : ℕ) → at < n → wrapped at n < n
-wrapped_lt at n h = grind (arith, wrapped)
+pub order_length : (n h : ℕ) → h < n → length (order n h) ≡ n
+order_length n h lt =
+    length-append (range_with_len h (n - h)) (range_with_len 0 h)
+    ∙ omega (arith, length-range_with_len h (n - h), length-range_with_len 0 h)
+
+pub order_at : (n h d x : ℕ) → h < n → d < n → get_or (order n h) d x ≡ place n h d
+order_at n h d x lt dn = ⊎_elim before after (split d (n - h))
+  where
+    split : (a b : ℕ) → (a < b) ⊎ (b ≤ a)
+    split a b = grind arith
+
+    first : d < n - h → h + d ≡ place n h d
+    first l = grind (arith, place)
+
+    second : n - h ≤ d → 0 + (d - (n - h)) ≡ place n h d
+    second l = grind (arith, place)
+
+    before : d < n - h → get_or (order n h) d x ≡ place n h d
+    before l =
+        get_or_append_left (range_with_len h (n - h)) (range_with_len 0 h) x d (omega (arith, l, length-range_with_len h (n - h)))
+        ∙ get_or-range_with_len h (n - h) d x l
+        ∙ first l
+
+    after : n - h ≤ d → get_or (order n h) d x ≡ place n h d
+    after l =
+        get_or-append_right (range_with_len h (n - h)) (range_with_len 0 h) (n - h) d x (length-range_with_len h (n - h)) l
+        ∙ get_or-range_with_len 0 h (d - (n - h)) x (omega (arith, l, lt, dn))
+        ∙ second l
+
+pub order_within : (n h d x : ℕ) → h < n → d < length (order n h) → x ≡ get_or (order n h) d x → x < n
+order_within n h d x lt l e =
+    let dn : d < n = omega (arith, l, order_length n h lt) in
+    omega (arith, e, order_at n h d x lt dn, place_lt n h d lt dn)
 
 -- how far the place j is from the home h
 pub back : ℕ → ℕ → ℕ → ℕ
@@ -36,20 +70,21 @@ back_place n h j hn jn = grind (arith, back, place)
 pub three : (a b : ℕ) → (a < b) ⊎ ((a ≡ b) ⊎ (b < a))
 three a b = grind arith
 
-pub two : (a b : ℕ) → a < b + 1 → (a < b) ⊎ (a ≡ b)
-two a b lt = grind arith
-
 pub same_or : (a b : ℕ) → (a ≡ b) ⊎ (a ≡ b → ⊥)
 same_or a b = grind arith
-
-pub nth_lt : {A : Type 0} (xs : List A) (i : ℕ) (x : A) → slice_get xs i ≡ Some x → i < length xs
-nth_lt [] i x e = let z : ◌≡◌ {A = ℕ} 0 1 = cc in omega arith
-nth_lt (y ∷ ys) zero x e = omega arith
-nth_lt (y ∷ ys) (suc i) x e = omega (arith, nth_lt ys i x e)
 
 -- one place holds one element
 pub nth_one : {A : Type 0} (xs : List A) (i j : ℕ) (x y : A) → i ≡ j → slice_get xs i ≡ Some x → slice_get xs j ≡ Some y → x ≡ y
 nth_one xs i j x y e a b = let s : Some x ≡ Some y = sym a ∙ ap (slice_get xs) e ∙ b in cc
+
+-- the same of two places that are equally far from one home
+pub same_place
+    : {A : Type 0} (xs : List A) (h d e : ℕ) (x y : A)
+    → d ≡ e
+    → slice_get xs (place (length xs) h d) ≡ Some x
+    → slice_get xs (place (length xs) h e) ≡ Some y
+    → x ≡ y
+same_place xs h d e x y q a b = nth_one xs (place (length xs) h d) (place (length xs) h e) x y (ap (place (length xs) h) q) a b
 
 pub nth_set_same : {A : Type 0} (xs : List A) (j : ℕ) (v : A) → j < length xs → slice_get (set xs j v) j ≡ Some v
 nth_set_same [] j v h = absurd (omega arith)
@@ -83,11 +118,57 @@ nth_append_cases (z ∷ xs) x y zero e = inl e
 nth_append_cases (z ∷ xs) x y (suc i) e =
     ⊎_elim (λ l. inl l) (λ r. inr (ap suc r.0, r.1)) (nth_append_cases xs x y i e)
 
--- the element that the code read at a place
-pub here_at
-    : {K : Type 0} (slots : List (Slot K)) (h d at : ℕ) (s : Slot K)
-    → at < length slots
-    → at ≡ place (length slots) h d
-    → s ≡ get_or slots at s
+-- a slot that holds a key is no free slot
+pub free_not_held : (K : Type 0) → Held (free_slot {K = K}) → ⊥
+free_not_held K h = let e : false ≡ true = h in absurd (cc)
+
+pub slots_apart : {K : Type 0} (k : K) (i : ℕ) → slot_of k i ≡ free_slot → ⊥
+slots_apart {K} k i e = free_not_held K (sym (ap (λ (s : Slot K). is_some s.held) e))
+
+-- slots that hold one key and number hold the same
+pub same_slot : {K : Type 0} (k q : K) (i j : ℕ) → slot_of k i ≡ slot_of q j → (k ≡ q) × (i ≡ j)
+same_slot {K} k q i j e =
+    let x : Entry K = record { key = k; number = i } in
+    let y : Entry K = record { key = q; number = j } in
+    let same : x ≡ y = same_Some x y (ap (λ (s : Slot K). s.held) e) in
+    (ap (λ (z : Entry K). z.key) same, ap (λ (z : Entry K). z.number) same)
+
+-- a walk over the places from h to the end, and then over those before h
+pub walk
+    : {s : Chain (Range ℕ) (Range ℕ)} (n h : ℕ)
+    → chain_first s ≡ record { start = h; end = n }
+    → chain_second s ≡ record { start = 0; end = h }
+    → chain_first_done s ≡ false
+    → chain_second_done s ≡ false
+    → YieldsList (chain_steps nat_range_steps nat_range_steps) (λ x. x) s (order n h)
+walk n h first second first_done second_done =
+    YieldsList-from_chain (YieldsList-from_range h n (n - h) first refl) (YieldsList-from_range 0 h h second (omega arith)) first_done second_done
+
+-- a turn of it, after the places xs: where the next place is, from the home k
+pub turned
+    : (n h k : ℕ) (xs : List ℕ) (at : ℕ)
+    → h < n
+    → h ≡ k
+    → (length xs < length (order n h)) × (at ≡ get_or (order n h) (length xs) at)
+    → (length xs < n) × (at ≡ place n k (length xs)) × (at < n)
+turned n h k xs at lt is turn =
+    let near : length xs < n = omega (arith, turn.0, order_length n h lt) in (
+      near,
+      turn.1 ∙ order_at n h (length xs) at lt near ∙ ap (λ j. place n j (length xs)) is,
+      order_within n h (length xs) at lt turn.0 turn.1,
+    )
+
+-- one more slot on the way
+pub along_more
+    : {K : Type 0} (P : Slot K → Type 0) (slots : List (Slot K)) (h d : ℕ) (s : Slot K)
+    → Along P (length slots) slots h d
     → slice_get slots (place (length slots) h d) ≡ Some s
-here_at slots h d at s lt e r = ap (slice_get slots) (sym e) ∙ slice_get_read slots (length slots) at s refl lt r
+    → P s
+    → Along P (length slots) slots h (d + 1)
+along_more {K} P slots h d s before here p e t lt at = ⊎_elim (λ less. before e t less at) same (split e d lt)
+  where
+    split : (a b : ℕ) → a < b + 1 → (a < b) ⊎ (a ≡ b)
+    split a b l = grind arith
+
+    same : e ≡ d → P t
+    same q = subst P (same_place slots h d e s t (sym q) here at) p

@@ -1,23 +1,49 @@
-// An index over slots that the caller owns: a hash table with linear probing, for any kind of key.
-// It keeps a list of keys by number: the caller holds the keys 0, 1, 2, .., and the index says which number a key has.
-// A key's home is its code modulo the slot count. From there the slots are tried one after another, the first after the last.
+//! An index over slots that the caller owns: a hash table with linear probing, for any kind of key.
+//! It keeps a list of keys by number: the caller holds the keys 0, 1, 2, .., and the index says which number a key has.
+//! A key's home is its code modulo the slot count. From there the slots are tried one after another, the first after the last.
 #![tactic(auto)]
 
-ghost use Rattle.std.specs.Prelude.{◌≡◌, ℕ, ◌%◌, ◌<◌, T as True, List, [], map, length};
-ghost use Rattle.index.specs.Keyed.{Extends, Found, Indexed, Inserted, Looked, OneInsertion, OneLookup, Refuses, Vacant, free_slot, slot_of, wrapped};
+ghost use Rattle.std.specs.Prelude.{◌≡◌, ℕ, T as True, Decides, List, [], length, replicate, nat_le, ◌%◌};
+ghost use Rattle.std.proofs.Common.{rules};
+ghost use Rattle.std.specs.Fn.{FnReturnsAt};
+ghost use Rattle.index.specs.Keyed.{Extends, Found, FreeOrHolds, Indexed, Inserted, Looked, OneInsertion, OneLookup, Probed, Refuses, free_slot, slot_of};
 
-// The number of a slot that holds no key. No key has this number.
-pub const FREE: u16 = 65535;
-
-// A slot holds a key with its number; under the number FREE it is free, and its key means nothing.
+/// A key with its number.
 #[derive(Clone, Copy)]
-pub struct Slot<K> {
+pub struct Entry<K> {
     pub key: K,
     pub number: u16,
 }
 
-// What can be a key: it has a code, which depends on the key alone, and two keys can be compared.
-pub trait Key {
+/// A slot holds a key with its number, or is free.
+#[derive(Clone, Copy)]
+pub struct Slot<K> {
+    pub held: Option<Entry<K>>,
+}
+
+/// How many slots the tables of a specification and of a card need.
+pub const SLOTS: usize = 2048;
+
+impl<K> Slot<K> {
+    /// A slot that holds no key.
+    pub fn free() -> Slot<K>
+        ensures { result ≡ free_slot }
+    {
+        Slot { held: None }
+    }
+
+    /// A slot that holds the key with this number.
+    pub fn holding(key: K, number: u16) -> Slot<K>
+        ensures { result ≡ slot_of key number }
+    {
+        Slot {
+            held: Some(Entry { key, number }),
+        }
+    }
+}
+
+/// What can be a key: it has a code, which depends on the key alone, and two keys can be compared.
+pub trait Key: Eq {
     ghost coded: { Self → ℕ };
 
     fn code(&self) -> u32
@@ -25,104 +51,87 @@ pub trait Key {
 
     fn same(&self, other: &Self) -> bool
         ensures yes { True result → self.now ≡ other.now }
-        ensures not { self.now ≡ other.now → True result };
+        ensures not { self.now ≡ other.now → True result }
+    {
+        self == other
+    }
+
+    // Keys that compare equal are one key.
+    ghost exact: { (a b : Self) → Decides (Self.eq a b) (a ≡ b) };
 }
 
-// The place after `at` among `n` places, where the first follows the last.
-fn following(at: usize, n: usize) -> usize
-    requires { at < n }
-    ensures { result ≡ wrapped at n }
+/// Are there as many slots as each table needs?
+pub fn enough<K>(slots: &[Slot<K>]) -> bool
+    ensures { result ≡ nat_le 2048 (length slots.now) }
 {
-    if at + 1 == n { 0 } else { at + 1 }
+    slots.len() >= SLOTS
 }
 
-fn slot_of<K>(key: K, number: u16) -> Slot<K>
-    ensures { result ≡ slot_of key number }
-{
-    Slot { key, number }
-}
-
-fn free_slot<K>(key: K) -> Slot<K>
-    ensures { result ≡ slot_of key 65535 }
-{
-    Slot { key, number: FREE }
-}
-
-// Marks every slot free. The keys stay where they are.
-pub fn clear<K: Key + Copy>(slots: &mut [Slot<K>])
-    ensures value { slots.new ≡ map free_slot slots.old }
-    ensures model { Indexed K.Key.coded slots.new [] }
-{
-    for i in 0..slots.len() {
-        let key = slots[i].key;
-        slots[i] = free_slot(key);
+impl<K: Key> Slot<K> {
+    /// Is the slot free, or does it hold this key?
+    fn is_free_or_holds(&self, key: &K) -> bool
+        ensures { Decides result (FreeOrHolds key.now self.now) }
+    {
+        match &self.held {
+            None => true,
+            Some(entry) => entry.key.same(key),
+        }
     }
 }
 
-// The number of the key, or None where no slot on its way holds it.
+/// The first place, from the key's home on, at whose slot the test is true.
+fn probe<K: Key, F: Fn(&Slot<K>) -> bool>(slots: &[Slot<K>], key: &K, stops: F) -> Option<usize>
+    requires { F.IsAlwaysCallable stops }
+    ensures { Probed K.Key.coded (FnReturnsAt F.Fn stops) slots.now key.now result }
+{
+    let home = (key.code() as usize).checked_rem(slots.len())?;
+    for at in (home..slots.len()).chain(0..home) {
+        if stops(&slots[at]) {
+            return Some(at);
+        }
+    }
+    None
+}
+
+/// Marks every slot free.
+pub fn clear<K: Key + Copy>(slots: &mut [Slot<K>])
+    ensures value { slots.new ≡ replicate (length slots.old) free_slot }
+    ensures model { Indexed K.Key.coded slots.new [] }
+{
+    slots.fill(Slot::free());
+}
+
+/// The number of the key, or None where no slot on its way holds it.
 pub fn find<K: Key>(slots: &[Slot<K>], key: &K) -> Option<u16>
     ensures value { Looked K.Key.coded slots.now key.now result }
     ensures model { (ks : List K) → Indexed K.Key.coded slots.now ks → Found ks key.now result }
 {
-    let n = slots.len();
-    if n == 0 {
-        return None;
-    }
-    let mut at = key.code() as usize % n;
-    for _d in 0..n {
-        let slot = &slots[at];
-        if slot.number == FREE {
-            return None;
-        }
-        if slot.key.same(key) {
-            return Some(slot.number);
-        }
-        at = following(at, n);
-    }
-    None
+    let at = probe(slots, key, |slot| slot.is_free_or_holds(key))?;
+    slots[at].held.as_ref().map(|entry| entry.number)
 }
 
-// The first free place from the key's home, if any place is free.
-fn vacant<K: Key>(slots: &[Slot<K>], key: &K) -> Option<usize>
-    ensures { Vacant K.Key.coded slots.now key.now result }
-{
-    let n = slots.len();
-    if n == 0 {
-        return None;
-    }
-    let mut at = key.code() as usize % n;
-    for _d in 0..n {
-        let slot = &slots[at];
-        if slot.number == FREE {
-            return Some(at);
-        }
-        at = following(at, n);
-    }
-    None
-}
-
-// Writes the key with its number into the first free slot from its home, and says whether there was one.
+/// Writes the key with its number into the first free slot from its home, and says whether there was one.
 pub fn insert<K: Key + Copy>(slots: &mut [Slot<K>], key: K, number: u16) -> bool
     ensures value { Inserted K.Key.coded slots.old key number result slots.new }
     ensures model { Extends K.Key.coded slots.old key number result slots.new }
     ensures full { Refuses slots.old result slots.new }
     ensures len { length slots.new ≡ length slots.old }
 {
-    match vacant(slots, &key) {
+    match probe(slots, &key, |slot| slot.held.is_none()) {
         Some(at) => {
-            slots[at] = slot_of(key, number);
+            slots[at] = Slot::holding(key, number);
             true
         }
         None => false,
     }
 }
 
-// The law that the relation of `find` allows one answer only.
+/// The law that the relation of `find` allows one answer only.
 pub fn lookup_is_unique<K: Key>()
     ensures { OneLookup K.Key.coded }
 {}
 
-// The law that the relation of `insert` allows one answer and one content of the slots only.
+/// The law that the relation of `insert` allows one answer and one content of the slots only.
 pub fn insertion_is_unique<K: Key>()
     ensures { OneInsertion K.Key.coded }
 {}
@@ -142,28 +151,18 @@ mod tests {
             self.0 as u32 % 4
         }
 
-        fn same(&self, other: &Small) -> bool {
-            *self == *other
-        }
+        ghost exact = { Prim.search rules };
     }
-
-    const NONE: Slot<Small> = Slot {
-        key: Small(0),
-        number: FREE,
-    };
 
     // Homes 2, 2 and 2 among three slots: the second key wraps around, and the fourth finds no room.
     #[test]
     fn keys_of_one_home(rt: HostRuntime) {
-        let mut slots = [Slot {
-            key: Small(9),
-            number: 7,
-        }; 3];
+        let mut slots = [Slot::holding(Small(9), 7); 3];
         clear(&mut slots);
         assert_eq!(rt; find(&slots, &Small(9)), None);
         assert!(rt; insert(&mut slots, Small(2), 0));
         assert!(rt; insert(&mut slots, Small(6), 1));
-        assert_eq!(rt; slots[0].number, 1);
+        assert_eq!(rt; slots[0].held.map(|entry| entry.number), Some(1));
         assert_eq!(rt; find(&slots, &Small(6)), Some(1));
         assert_eq!(rt; find(&slots, &Small(10)), None);
         assert!(rt; insert(&mut slots, Small(10), 2));
@@ -174,9 +173,17 @@ mod tests {
 
     #[test]
     fn no_slots(rt: HostRuntime) {
-        let mut slots = [NONE; 0];
+        let mut slots = [Slot::free(); 0];
         clear(&mut slots);
         assert!(rt; !insert(&mut slots, Small(2), 0));
         assert_eq!(rt; find(&slots, &Small(2)), None);
+    }
+
+    // One slot fewer than a table needs.
+    #[test]
+    fn slots_enough(rt: HostRuntime) {
+        let slots: [Slot<Small>; SLOTS] = [Slot::free(); SLOTS];
+        assert!(rt; enough(&slots));
+        assert!(rt; !enough(&slots[1..]));
     }
 }
