@@ -1,23 +1,20 @@
--- Entries as numbers, and their codes.
+-- The codes of entries.
 use Rattle.std.specs.Prelude.{ℕ, ◌+◌, ◌*◌}
-use Rattle.formulas.specs.declared.Fields.{Fields}
 use Rattle.formulas.specs.declared.Formula.{Formula}
 use Rattle.formulas.specs.declared.Formula.TheVariants as entry
 
--- the operator's number, then the entry's variable, bounds and parts in order
-abbrev pub fields_of : Formula → Fields
-fields_of entry.False = record { operator = 0; a = 0; b = 0; c = 0 }
-fields_of entry.True = record { operator = 1; a = 0; b = 0; c = 0 }
-fields_of (entry.Variable v) = record { operator = 2; a = v; b = 0; c = 0 }
-fields_of (entry.Negated v) = record { operator = 3; a = v; b = 0; c = 0 }
-fields_of (entry.And a b) = record { operator = 4; a = a; b = b; c = 0 }
-fields_of (entry.Or a b) = record { operator = 5; a = a; b = b; c = 0 }
-fields_of (entry.Next n a) = record { operator = 6; a = n; b = a; c = 0 }
-fields_of (entry.Always n m a) = record { operator = 7; a = n; b = m; c = a }
-fields_of (entry.Eventually n m a) = record { operator = 8; a = n; b = m; c = a }
+-- a code of an operator's number and of what an entry holds, in order, 0 for what it lacks
+abbrev pub mixed : ℕ → ℕ → ℕ → ℕ → ℕ
+mixed operator a b c = operator + 11 * a + 353 * b + 10007 * c
 
-abbrev pub code_of : Fields → ℕ
-code_of f = f.operator + 11 * f.a + 353 * f.b + 10007 * f.c
-
+-- the code of an entry: of its operator, then of its variable, its bounds and its parts
 abbrev pub entry_code : Formula → ℕ
-entry_code e = code_of (fields_of e)
+entry_code entry.False = mixed 0 0 0 0
+entry_code entry.True = mixed 1 0 0 0
+entry_code (entry.Variable v) = mixed 2 v 0 0
+entry_code (entry.Negated v) = mixed 3 v 0 0
+entry_code (entry.And a b) = mixed 4 a b 0
+entry_code (entry.Or a b) = mixed 5 a b 0
+entry_code (entry.Next n a) = mixed 6 n a 0
+entry_code (entry.Always n m a) = mixed 7 n m a
+entry_code (entry.Eventually n m a) = mixed 8 n m a

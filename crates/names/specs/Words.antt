@@ -1,5 +1,5 @@
 -- Words, their names, and the codes of names.
-use Rattle.std.specs.Prelude.{◌≡◌, ℕ, ◌+◌, ◌-◌, ◌*◌, ◌%◌, ◌≤◌, Bool, cond, ◌&&◌, List, [], ◌∷◌, ◌++◌, length, take, replicate, ◌==◌, nat_le, nat_lt, slice_index}
+use Rattle.std.specs.Prelude.{◌≡◌, ℕ, ◌+◌, ◌-◌, ◌*◌, ◌%◌, ◌≤◌, Bool, cond, ◌&&◌, List, ◌++◌, length, take, replicate, fold, ◌==◌, nat_le, nat_lt, slice_index}
 use Rattle.names.specs.declared.Name.{Name}
 
 -- a length, cut to 15
@@ -26,11 +26,6 @@ is_environment w = nat_le 2 (length w) && slice_index w (length w - 2) == 95 && 
 abbrev pub next_code : ℕ → ℕ → ℕ
 next_code code b = (code * 31 + b) % 65521
 
--- the code of a list of bytes, from the code of those before it
-abbrev pub code_from : ℕ → List ℕ → ℕ
-code_from code [] = code
-code_from code (b ∷ bs) = code_from (next_code code b) bs
-
--- the code of a name is that of its 15 bytes
+-- the code of a name is that of its 15 bytes, one after another
 abbrev pub name_code : Name → ℕ
-name_code n = code_from 0 n.bytes
+name_code n = fold next_code 0 n.bytes
