@@ -2,42 +2,17 @@
 #![tactic(auto)]
 
 use files::read_or_empty;
-use formulas::Formula;
-use index::{FREE, Slot};
+use index::{SLOTS, Slot};
 use marker::mark;
-use names::Name;
 use outcome::{Outcome, line};
-use records::FormulaRecord;
-use rested::key::FormulaKey;
 use std::io;
 use std::io::Write;
 
-/// A formula to fill free slots with.
-const NO_FORMULA: FormulaRecord = FormulaRecord {
-    kind: 0,
-    variable: 0,
-    a: 0,
-    b: 0,
-    n: 0,
-    m: 0,
-};
-
 /// Marks a text and a card file, with as many slots as that asks for.
 fn mark_bytes(text: &[u8], card: &[u8]) -> Outcome {
-    let mut names = [Slot {
-        key: Name::new(b""),
-        number: FREE,
-    }; 2048];
-    let mut formulas = [Slot {
-        key: Formula::False,
-        number: FREE,
-    }; 2048];
-    let mut records = [Slot {
-        key: FormulaKey {
-            formula: NO_FORMULA,
-        },
-        number: FREE,
-    }; 2048];
+    let mut names = [Slot::free(); SLOTS];
+    let mut formulas = [Slot::free(); SLOTS];
+    let mut records = [Slot::free(); SLOTS];
     mark(text, card, &mut names, &mut formulas, &mut records)
 }
 

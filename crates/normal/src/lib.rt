@@ -103,10 +103,7 @@ mod tests {
     // False, True, p, q, p & q, -p, -q, -p & -q, and the disjunction of the two conjunctions.
     #[test]
     fn equivalence_is_two_conjunctions(rt: HostRuntime) -> Result<(), Fail> {
-        let mut slots = [Slot {
-            key: Formula::False,
-            number: 7,
-        }; 2048];
+        let mut slots = [Slot::holding(Formula::False, 7); 2048];
         let Ok(formulas) = normalize(&equivalence(), &mut slots) else {
             return Err(Fail::new("refused"));
         };
@@ -122,10 +119,7 @@ mod tests {
 
     #[test]
     fn few_slots_are_refused(rt: HostRuntime) {
-        let mut slots = [Slot {
-            key: Formula::False,
-            number: 7,
-        }; 2047];
+        let mut slots = [Slot::holding(Formula::False, 7); 2047];
         assert!(rt; is_short(normalize(&equivalence(), &mut slots)));
     }
 

@@ -74,14 +74,18 @@ pub fn parse(text: &[u8], slots: &mut [Slot<Name>]) -> Result<Parsed, Fault>
 #[cfg(test)]
 mod tests {
     use super::*;
+    use index::Entry;
     use std::test::Fail;
 
+    // A slot that holds a name from before.
     const SLOT: Slot<Name> = Slot {
-        key: Name {
-            bytes: [0; 15],
-            length: 0,
-        },
-        number: 0,
+        held: Some(Entry {
+            key: Name {
+                bytes: [0; 15],
+                length: 0,
+            },
+            number: 0,
+        }),
     };
 
     // The number and the place of the refusal, or two zeros.

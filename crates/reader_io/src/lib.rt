@@ -4,10 +4,8 @@
 use explanation::line;
 use faults::Fault;
 use files::read_or_empty;
-use formulas::Formula;
-use index::{FREE, Slot};
+use index::{SLOTS, Slot};
 use lines::Line;
-use names::Name;
 use rules::read::read;
 use rules::specification::Specification;
 use std::io;
@@ -15,14 +13,8 @@ use std::io::Write;
 
 /// What a text reads as, with as many slots as reading asks for.
 fn read_text(text: &[u8]) -> Result<Specification, Fault> {
-    let mut names = [Slot {
-        key: Name::new(b""),
-        number: FREE,
-    }; 2048];
-    let mut formulas = [Slot {
-        key: Formula::False,
-        number: FREE,
-    }; 2048];
+    let mut names = [Slot::free(); SLOTS];
+    let mut formulas = [Slot::free(); SLOTS];
     read(text, &mut names, &mut formulas)
 }
 

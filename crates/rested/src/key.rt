@@ -1,12 +1,13 @@
 // Formula records as keys of an index.
 ghost use Rattle.std.specs.Prelude.{◌≡◌};
+ghost use Rattle.std.proofs.Common.{rules};
 ghost use Rattle.rested.specs.Codes.{formula_code};
 
 use index::Key;
 use records::FormulaRecord;
 
-// A formula record as a key.
-#[derive(Clone, Copy)]
+/// A formula record as a key.
+#[derive(Clone, Copy, PartialEq, Eq)]
 pub struct FormulaKey {
     pub formula: FormulaRecord,
 }
@@ -18,15 +19,13 @@ fn code_of(f: &FormulaRecord) -> u32
     f.kind as u32 * 2053 + f.variable as u32 * 8009 + numbers
 }
 
-// The code spreads over all fields; two keys are the same where all fields of their records are equal.
+/// The code spreads over all fields.
 impl Key for FormulaKey {
     ghost coded = { λ k. formula_code k.formula };
 
+    ghost exact = { Prim.search rules };
+
     fn code(&self) -> u32 {
         code_of(&self.formula)
-    }
-
-    fn same(&self, other: &FormulaKey) -> bool {
-        self.formula == other.formula
     }
 }

@@ -10,7 +10,7 @@ mod tests {
     use crate::key::FormulaKey;
     use crate::reading::{Cautious, Generous};
     use crate::rest::rests;
-    use index::{FREE, Slot, clear, insert};
+    use index::{Slot, clear, insert};
     use records::{FormulaRecord, MoveRecord};
 
     fn formula(kind: u8, variable: u8, a: u16, b: u16, n: u16, m: u16) -> FormulaRecord {
@@ -34,10 +34,7 @@ mod tests {
     }
 
     fn indexed(formulas: &[FormulaRecord]) -> [Slot<FormulaKey>; 64] {
-        let key = FormulaKey {
-            formula: formula(0, 0, 0, 0, 0, 0),
-        };
-        let mut slots = [Slot { key, number: FREE }; 64];
+        let mut slots = [Slot::free(); 64];
         clear(&mut slots);
         enter(&mut slots, formulas);
         slots
