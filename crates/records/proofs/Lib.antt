@@ -1,2 +1,3 @@
 pub mod Bits
 pub mod Named
+pub mod Turns

@@ -1,13 +1,20 @@
 -- What the form of a record says, by its kind; and the rest of its entry.
-use Rattle.std.proofs.Common.{◌≡◌, ℕ, ◌<◌, ◌≤◌, Bool, true, false, cond, ◌&&◌, ◌||◌, eqb, leb, List, length, Some, Option, sym, refl, ap, ◌∙◌, subst, arith}
+use Rattle.std.proofs.Common.{Result, None, Ok, Err, ◌≡◌, ℕ, ◌<◌, ◌≤◌, Bool, true, false, ◌&&◌, ◌||◌, eqb, leb, List, length, Some, Option, sym, refl, ap, ◌∙◌, subst, arith}
+use Rattle.std.specs.Result.{result_ok}
+use mir.Val.{bool_byte}
 use mathlib.Core.Bool.{false≢true}
-use Rattle.std.proofs.lemmas.Bool.{ne_eqb}
-use Rattle.temporal.specs.Formula.{Formula, bot, top, lit, Reading, constant}
+use Rattle.temporal.specs.Formula.{Formula, bot, top, lit, conj, disj, next, always, eventually, Reading, constant}
 use Rattle.temporal.proofs.Tells.{and_tells, le_tells, self_tells}
 use Rattle.tableau.specs.Card.{Entry, by_kind, build}
 use Rattle.tableau.specs.Form.{part_formed, constant_formed, literal_formed, pair_formed, next_formed, range_formed, formula_formed}
 use Rattle.tableau.proofs.Trees.{part_tells}
+use Rattle.formulas.specs.declared.Formula.{Formula as Entered}
+use Rattle.formulas.specs.declared.Formula.TheVariants as entry
+use Rattle.formulas.specs.Trees.{grow}
 use Rattle.records.specs.declared.FormulaRecord.{FormulaRecord}
+use Rattle.records.specs.declared.kind.UnknownKind.{UnknownKind}
+use Rattle.records.specs.Kinds.{named}
+use Rattle.records.proofs.Named.{Names, named_is, unknown_is, no_kind}
 use Rattle.records.specs.Raw.{entry_of}
 use Rattle.records.specs.Table.{entry_at, formulas_of, formula_of}
 use Rattle.rested.specs.Listing.{InForm}
@@ -16,15 +23,10 @@ use Rattle.rested.proofs.Trees.{tree_built}
 use Rattle.rested.proofs.Placed.{rested_alone}
 use Rattle.rested.proofs.Found.{zero_placed, one_placed}
 
--- a kind past the last
-no_kind : {X : Type 0} (k : ℕ) (x0 x1 x2 x3 x4 x5 x6 x7 x8 none : X) → 9 ≤ k → by_kind k x0 x1 x2 x3 x4 x5 x6 x7 x8 none ≡ none
-no_kind k x0 x1 x2 x3 x4 x5 x6 x7 x8 none h =
-    pass 0 (λ e. omega arith) x0 _ ∙ (pass 1 (λ e. omega arith) x1 _ ∙ (pass 2 (λ e. omega arith) x2 _ ∙ (pass 3 (λ e. omega arith) x3 _
-    ∙ (pass 4 (λ e. omega arith) x4 _ ∙ (pass 5 (λ e. omega arith) x5 _ ∙ (pass 6 (λ e. omega arith) x6 _ ∙ (pass 7 (λ e. omega arith) x7 _
-    ∙ pass 8 (λ e. omega arith) x8 none)))))))
-  where
-    pass : {X : Type 0} (j : ℕ) → (k ≡ j → ⊥) → (x y : X) → cond (eqb k j) x y ≡ y
-    pass j n x y = ap (λ b. cond b x y) (ne_eqb k j n)
+-- what a look-up by name gives, where it gives something
+pub named_by : {A E : Type 0} (r n : Result A E) (o : Option A) (x y : A) → r ≡ n → o ≡ result_ok r → o ≡ Some x → x ≡ y → n ≡ Ok y
+named_by (Ok z) n o x y h v w e = let k : z ≡ x = cc in sym h ∙ ap Ok (k ∙ e)
+named_by (Err d) n o x y h v w e = let z : None ≡ Some x = sym v ∙ w in absurd (cc)
 
 -- a part before entry i
 abbrev pub Part : ℕ → ℕ → Type 0
@@ -47,6 +49,18 @@ next_tells i f h =
     (and_tells (leb 1 f.n && leb f.n 4095) _ (and_tells (leb 1 f.n) _ (le_tells _ _) (le_tells _ _)) (part_tells i f.a))
     (self_tells _)).0 h).0
 
+-- what the form of an entry says: its parts stand before it, and its bounds are in order
+abbrev pub FormedAt : ℕ → Entered → Type 0
+FormedAt i entry.False = Unit {0}
+FormedAt i entry.True = Unit {0}
+FormedAt i (entry.Variable v) = Unit {0}
+FormedAt i (entry.Negated v) = Unit {0}
+FormedAt i (entry.And a b) = Part i a × Part i b
+FormedAt i (entry.Or a b) = Part i a × Part i b
+FormedAt i (entry.Next n a) = (1 ≤ n) × Part i a
+FormedAt i (entry.Always n m a) = (n ≤ m) × Part i a
+FormedAt i (entry.Eventually n m a) = (n ≤ m) × Part i a
+
 module _ (rs : List FormulaRecord) (ok : InForm rs) (i : ℕ) (l : i < length rs) (f : FormulaRecord) (e : entry_at rs i ≡ entry_of f) where
   abbrev g : Entry
   g = entry_of f
@@ -63,33 +77,56 @@ module _ (rs : List FormulaRecord) (ok : InForm rs) (i : ℕ) (l : i < length rs
       ((and_tells (leb 2 i || eqb f.kind i) _ (self_tells _) (self_tells _)).0
       (subst (λ (x : Entry). formula_formed ok.spec i x ≡ true) e (ok.table.formed i l))).1
 
-  pub and_parts : f.kind ≡ 4 → Part i f.a × Part i f.b
-  and_parts h = pair_tells i (entry_of f) (form 4 h)
+  -- what the form says of the formula that the record names
+  pub named_formed : (x : Entered) → named f ≡ Ok x → FormedAt i x
+  named_formed x is = go x (named_is f x is)
+    where
+      go : (x : Entered) → Names f x → FormedAt i x
+      go entry.False h = tt
+      go entry.True h = tt
+      go (entry.Variable v) h = tt
+      go (entry.Negated v) h = tt
+      go (entry.And a b) h = let p = pair_tells i (entry_of f) (form 4 h.0) in (subst (Part i) h.1 p.0, subst (Part i) h.2 p.1)
+      go (entry.Or a b) h = let p = pair_tells i (entry_of f) (form 5 h.0) in (subst (Part i) h.1 p.0, subst (Part i) h.2 p.1)
+      go (entry.Next n a) h =
+          let p = next_tells i (entry_of f) (form 6 h.0) in
+          (omega (arith, p.0.0, h.1), subst (Part i) h.2 p.1)
+      go (entry.Always n m a) h =
+          let p = range_tells i (entry_of f) (form 7 h.0) in
+          (omega (arith, p.0.0, h.1, h.2), subst (Part i) h.3 p.1)
+      go (entry.Eventually n m a) h =
+          let p = range_tells i (entry_of f) (form 8 h.0) in
+          (omega (arith, p.0.0, h.1, h.2), subst (Part i) h.3 p.1)
 
-  pub or_parts : f.kind ≡ 5 → Part i f.a × Part i f.b
-  or_parts h = pair_tells i (entry_of f) (form 5 h)
+  -- each record in form names a formula
+  pub always_named : (u : UnknownKind) → named f ≡ Err u → ⊥
+  always_named u is =
+      false≢true (sym (no_kind f.kind _ _ _ _ _ _ _ _ _ false (unknown_is f u is)) ∙ form f.kind refl)
 
-  pub next_parts : f.kind ≡ 6 → ((1 ≤ f.n) × (f.n ≤ 4095)) × Part i f.a
-  next_parts h = next_tells i (entry_of f) (form 6 h)
+  -- the entry's formula is that of the formula that the record names
+  pub named_tree : (x : Entered) → named f ≡ Ok x → formula_of rs i ≡ grow (formulas_of rs) x
+  named_tree x is = go x (named_is f x is)
+    where
+      built : (k : ℕ) → f.kind ≡ k → formula_of rs i ≡ build k f.variable f.n f.m (formula_of rs f.a) (formula_of rs f.b)
+      built k h =
+          tree_built rs ok i l
+          ∙ ap (λ (g : Entry). build g.kind g.variable g.n g.m (formula_of rs g.a) (formula_of rs g.b)) e
+          ∙ ap (λ (j : ℕ). build j f.variable f.n f.m (formula_of rs f.a) (formula_of rs f.b)) h
 
-  pub always_parts : f.kind ≡ 7 → ((f.n ≤ f.m) × (f.m ≤ 4095)) × Part i f.a
-  always_parts h = range_tells i (entry_of f) (form 7 h)
+      go : (x : Entered) → Names f x → formula_of rs i ≡ grow (formulas_of rs) x
+      go entry.False h = built 0 h
+      go entry.True h = built 1 h
+      go (entry.Variable v) h = built 2 h.0 ∙ ap (lit true) h.1
+      go (entry.Negated v) h = built 3 h.0 ∙ ap (lit false) h.1
+      go (entry.And a b) h = built 4 h.0 ∙ (λ j. conj (formula_of rs (h.1 j)) (formula_of rs (h.2 j)))
+      go (entry.Or a b) h = built 5 h.0 ∙ (λ j. disj (formula_of rs (h.1 j)) (formula_of rs (h.2 j)))
+      go (entry.Next n a) h = built 6 h.0 ∙ (λ j. next (h.1 j) (formula_of rs (h.2 j)))
+      go (entry.Always n m a) h = built 7 h.0 ∙ (λ j. always (h.1 j) (h.2 j) (formula_of rs (h.3 j)))
+      go (entry.Eventually n m a) h = built 8 h.0 ∙ (λ j. eventually (h.1 j) (h.2 j) (formula_of rs (h.3 j)))
 
-  pub eventually_parts : f.kind ≡ 8 → ((f.n ≤ f.m) × (f.m ≤ 4095)) × Part i f.a
-  eventually_parts h = range_tells i (entry_of f) (form 8 h)
-
-  pub known_kind : 9 ≤ f.kind → ⊥
-  known_kind h = false≢true (sym (no_kind f.kind _ _ _ _ _ _ _ _ _ false h) ∙ form f.kind refl)
-
-  -- the entry's formula, by its kind
-  pub rested_entry : (R : Reading) (k : ℕ) (o : Option ℕ) → f.kind ≡ k
-      → Rested R (formulas_of rs) (build k f.variable f.n f.m (formula_of rs f.a) (formula_of rs f.b)) o
-      → Rested R (formulas_of rs) (formula_of rs i) o
-  rested_entry R k o h r =
-      subst (λ (t : Formula). Rested R (formulas_of rs) t o)
-      (sym (tree_built rs ok i l
-      ∙ ap (λ (g : Entry). build g.kind g.variable g.n g.m (formula_of rs g.a) (formula_of rs g.b)) e
-      ∙ ap (λ (j : ℕ). build j f.variable f.n f.m (formula_of rs f.a) (formula_of rs f.b)) h)) r
+  pub rested_named : (R : Reading) (x : Entered) (o : Option ℕ) → named f ≡ Ok x
+      → Rested R (formulas_of rs) (grow (formulas_of rs) x) o → Rested R (formulas_of rs) (formula_of rs i) o
+  rested_named R x o is r = subst (λ (t : Formula). Rested R (formulas_of rs) t o) (sym (named_tree x is)) r
 
 module _ (rs : List FormulaRecord) (ok : InForm rs) (R : Reading) where
   pub rested_bot : Rested R (formulas_of rs) bot (Some 0)
@@ -98,15 +135,11 @@ module _ (rs : List FormulaRecord) (ok : InForm rs) (R : Reading) where
   pub rested_top : Rested R (formulas_of rs) top (Some 1)
   rested_top = rested_alone R (formulas_of rs) top refl (Some 1) (one_placed rs ok)
 
-  constant_placed : (b : Bool) → Placed (formulas_of rs) (constant b) (Some (cond b 1 0))
+  constant_placed : (b : Bool) → Placed (formulas_of rs) (constant b) (Some (bool_byte b))
   constant_placed true = one_placed rs ok
   constant_placed false = zero_placed rs ok
 
-  pub rested_literal : (s : Bool) (v : ℕ) (o : Option ℕ) → o ≡ Some (cond (R s v) 1 0) → Rested R (formulas_of rs) (lit s v) o
-  rested_literal s v o e =
-      rested_alone R (formulas_of rs) (lit s v) refl o
-      (subst (λ (r : Option ℕ). Placed (formulas_of rs) (constant (R s v)) r) (sym e) (constant_placed (R s v)))
-
--- what is remembered of a formula's rest
-pub recalled_rested : (R : Reading) (ts : List Formula) (f : Formula) (o r : Option ℕ) → r ≡ o → Rested R ts f o → Rested R ts f r
-recalled_rested R ts f o r e h = subst (λ (x : Option ℕ). Rested R ts f x) (sym e) h
+  pub rested_literal : (s : Bool) (v k : ℕ) (b : Bool) → k ≡ bool_byte b → b ≡ R s v → Rested R (formulas_of rs) (lit s v) (Some k)
+  rested_literal s v k b e h =
+      rested_alone R (formulas_of rs) (lit s v) refl (Some k)
+      (subst (λ (n : ℕ). Placed (formulas_of rs) (constant (R s v)) (Some n)) (sym (e ∙ ap bool_byte h)) (constant_placed (R s v)))

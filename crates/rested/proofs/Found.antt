@@ -10,12 +10,18 @@ use Rattle.temporal.proofs.Lists.{place}
 use Rattle.temporal.proofs.Same.{member_tells}
 use Rattle.tableau.specs.Card.{Entry, build}
 use Rattle.tableau.proofs.Different.{Read}
+use Rattle.formulas.specs.declared.Formula.{Formula as Entered}
+use Rattle.formulas.specs.declared.Formula.TheVariants as entry
 use Rattle.index.specs.Keyed.{Found}
 use Rattle.records.specs.declared.FormulaRecord.{FormulaRecord}
+use Rattle.records.specs.Kinds.{recorded}
 use Rattle.records.specs.Raw.{entry_of}
 use Rattle.rested.specs.declared.key.FormulaKey.{FormulaKey}
 use Rattle.records.specs.Table.{entry_at, formulas_of, formula_of}
-use Rattle.rested.specs.Listing.{InForm, key_of, pair_of, timed_of}
+use Rattle.rested.specs.declared.junction.Junction.{Junction}
+use Rattle.rested.specs.declared.junction.Junction.TheVariants.{And, Or}
+use Rattle.rested.specs.Junctions.{join_of, range_of, absorbing_of, neutral_of, entry_of_both, entry_over}
+use Rattle.rested.specs.Listing.{InForm, key_of}
 use Rattle.rested.specs.Rests.{Placed, Rested}
 use Rattle.rested.proofs.Trees.{trees_long, tree_bot, tree_top, tree_plain, tree_built, tree_read, trees_differ}
 
@@ -33,34 +39,65 @@ at_key (r ∷ rs) zero f l e =
     λ j. Some (record { formula = record { kind = (e j).kind; variable = (e j).variable; a = (e j).a; b = (e j).b; n = (e j).n; m = (e j).m } })
 at_key (r ∷ rs) (suc i) f l e = at_key rs i f (omega arith) e
 
--- ── constants as second parts ──
-conjoin_bot : (f : Formula) → conjoin f bot ≡ bot
-conjoin_bot f = elim (kind f) as (λ k. conjoin_by k is_bot f bot ≡ bot) [ is_bot ↦ refl | is_top ↦ refl | other ↦ refl ]
+-- ── what conjunctions and disjunctions have in common ──
+-- the constant that decides alone, the one that leaves the other part, and the operator
+abbrev pub absorbing : Junction → Formula
+absorbing And = bot
+absorbing Or = top
 
-disjoin_top : (f : Formula) → disjoin f top ≡ top
-disjoin_top f = elim (kind f) as (λ k. disjoin_by k is_top f top ≡ top) [ is_bot ↦ refl | is_top ↦ refl | other ↦ refl ]
+abbrev pub neutral : Junction → Formula
+neutral And = top
+neutral Or = bot
 
-conjoin_top : (f : Formula) → conjoin f top ≡ f
-conjoin_top bot = refl
-conjoin_top top = refl
-conjoin_top (lit s v) = refl
-conjoin_top (conj f g) = refl
-conjoin_top (disj f g) = refl
-conjoin_top (next n f) = refl
-conjoin_top (always n m f) = refl
-conjoin_top (eventually n m f) = refl
+abbrev pub operator_of : Junction → Formula → Formula → Formula
+operator_of And = conj
+operator_of Or = disj
 
-disjoin_bot : (f : Formula) → disjoin f bot ≡ f
-disjoin_bot bot = refl
-disjoin_bot top = refl
-disjoin_bot (lit s v) = refl
-disjoin_bot (conj f g) = refl
-disjoin_bot (disj f g) = refl
-disjoin_bot (next n f) = refl
-disjoin_bot (always n m f) = refl
-disjoin_bot (eventually n m f) = refl
+absorbing_first : (j : Junction) (f : Formula) → join_of j (absorbing j) f ≡ absorbing j
+absorbing_first And f = refl
+absorbing_first Or f = refl
+
+absorbing_second : (j : Junction) (f : Formula) → join_of j f (absorbing j) ≡ absorbing j
+absorbing_second And f = elim (kind f) as (λ k. conjoin_by k is_bot f bot ≡ bot) [ is_bot ↦ refl | is_top ↦ refl | other ↦ refl ]
+absorbing_second Or f = elim (kind f) as (λ k. disjoin_by k is_top f top ≡ top) [ is_bot ↦ refl | is_top ↦ refl | other ↦ refl ]
+
+neutral_first : (j : Junction) (f : Formula) → join_of j (neutral j) f ≡ f
+neutral_first And f = refl
+neutral_first Or f = refl
+
+neutral_second : (j : Junction) (f : Formula) → join_of j f (neutral j) ≡ f
+neutral_second And f = conjoin_top f
+  where
+    conjoin_top : (f : Formula) → conjoin f top ≡ f
+    conjoin_top bot = refl
+    conjoin_top top = refl
+    conjoin_top (lit s v) = refl
+    conjoin_top (conj f g) = refl
+    conjoin_top (disj f g) = refl
+    conjoin_top (next n f) = refl
+    conjoin_top (always n m f) = refl
+    conjoin_top (eventually n m f) = refl
+neutral_second Or f = disjoin_bot f
+  where
+    disjoin_bot : (f : Formula) → disjoin f bot ≡ f
+    disjoin_bot bot = refl
+    disjoin_bot top = refl
+    disjoin_bot (lit s v) = refl
+    disjoin_bot (conj f g) = refl
+    disjoin_bot (disj f g) = refl
+    disjoin_bot (next n f) = refl
+    disjoin_bot (always n m f) = refl
+    disjoin_bot (eventually n m f) = refl
+
+others_joined : (j : Junction) (f g : Formula) → kind f ≡ other → kind g ≡ other → operator_of j f g ≡ join_of j f g
+others_joined And f g d e = λ i. conjoin_by (sym d i) (sym e i) f g
+others_joined Or f g d e = λ i. disjoin_by (sym d i) (sym e i) f g
 
 module _ (rs : List FormulaRecord) (ok : InForm rs) where
+  -- where the list has the record of an entry
+  abbrev pub ListedAt : Entered → Option ℕ → Type 0
+  ListedAt e o = Found (map key_of rs) (key_of (recorded e)) o
+
   -- the formula of a record, over the listed formulas
   abbrev pub whole : FormulaRecord → Formula
   whole f = build f.kind f.variable f.n f.m (formula_of rs f.a) (formula_of rs f.b)
@@ -104,33 +141,42 @@ module _ (rs : List FormulaRecord) (ok : InForm rs) where
                 ∙ ap (λ (g : Entry). build g.kind g.variable g.n g.m (formula_of rs g.a) (formula_of rs g.b)) p.1,
           )
 
-  -- the record of a conjunction or disjunction, and of an X, G or F, with listed parts
+  -- the records of a conjunction and a disjunction, and of an X, G and F, with listed parts
   module _ (x y : ℕ) (lx : x < length rs) (ly : y < length rs) (o : Option ℕ) where
-    pub conj_placed : Found (map key_of rs) (key_of (pair_of 4 x y)) o → Placed (formulas_of rs) (conj (formula_of rs x) (formula_of rs y)) o
+    pub conj_placed : ListedAt (entry.And x y) o → Placed (formulas_of rs) (conj (formula_of rs x) (formula_of rs y)) o
     conj_placed =
-        found_placed (pair_of 4 x y) o
+        found_placed (recorded (entry.And x y)) o
         (record { kind = refl; variable = refl; n = refl; m = refl; one = refl; two = refl; a = inr lx; b = inr ly })
 
-    pub disj_placed : Found (map key_of rs) (key_of (pair_of 5 x y)) o → Placed (formulas_of rs) (disj (formula_of rs x) (formula_of rs y)) o
+    pub disj_placed : ListedAt (entry.Or x y) o → Placed (formulas_of rs) (disj (formula_of rs x) (formula_of rs y)) o
     disj_placed =
-        found_placed (pair_of 5 x y) o
+        found_placed (recorded (entry.Or x y)) o
         (record { kind = refl; variable = refl; n = refl; m = refl; one = refl; two = refl; a = inr lx; b = inr ly })
+
+    pub both_placed : (j : Junction) → ListedAt (entry_of_both j x y) o
+        → Placed (formulas_of rs) (operator_of j (formula_of rs x) (formula_of rs y)) o
+    both_placed And = conj_placed
+    both_placed Or = disj_placed
 
   module _ (a n m : ℕ) (la : a < length rs) (o : Option ℕ) where
-    pub next_placed : Found (map key_of rs) (key_of (timed_of 6 a n 0)) o → Placed (formulas_of rs) (next n (formula_of rs a)) o
+    pub next_placed : ListedAt (entry.Next n a) o → Placed (formulas_of rs) (next n (formula_of rs a)) o
     next_placed =
-        found_placed (timed_of 6 a n 0) o
+        found_placed (recorded (entry.Next n a)) o
         (record { kind = refl; variable = refl; n = refl; m = refl; one = refl; two = sym (tree_bot rs ok); a = inr la; b = inl refl })
 
-    pub always_placed : Found (map key_of rs) (key_of (timed_of 7 a n m)) o → Placed (formulas_of rs) (always n m (formula_of rs a)) o
+    pub always_placed : ListedAt (entry.Always n m a) o → Placed (formulas_of rs) (always n m (formula_of rs a)) o
     always_placed =
-        found_placed (timed_of 7 a n m) o
+        found_placed (recorded (entry.Always n m a)) o
         (record { kind = refl; variable = refl; n = refl; m = refl; one = refl; two = sym (tree_bot rs ok); a = inr la; b = inl refl })
 
-    pub eventually_placed : Found (map key_of rs) (key_of (timed_of 8 a n m)) o → Placed (formulas_of rs) (eventually n m (formula_of rs a)) o
+    pub eventually_placed : ListedAt (entry.Eventually n m a) o → Placed (formulas_of rs) (eventually n m (formula_of rs a)) o
     eventually_placed =
-        found_placed (timed_of 8 a n m) o
+        found_placed (recorded (entry.Eventually n m a)) o
         (record { kind = refl; variable = refl; n = refl; m = refl; one = refl; two = sym (tree_bot rs ok); a = inr la; b = inl refl })
+
+    pub over_placed : (j : Junction) → ListedAt (entry_over j n m a) o → Placed (formulas_of rs) (range_of j n m (formula_of rs a)) o
+    over_placed And = always_placed
+    over_placed Or = eventually_placed
 
   -- ── joined by number: entry 0 is false, entry 1 true, no other is a constant ──
   pub zero_placed : Placed (formulas_of rs) bot (Some 0)
@@ -139,62 +185,52 @@ module _ (rs : List FormulaRecord) (ok : InForm rs) where
   pub one_placed : Placed (formulas_of rs) top (Some 1)
   one_placed = (omega (arith, ok.table.two, trees_long rs ok), tree_top rs ok)
 
-  plain : (x : ℕ) → x < length rs → (x ≡ 0 → ⊥) → (x ≡ 1 → ⊥) → kind (formula_of rs x) ≡ other
-  plain x l p q = tree_plain rs ok x l (omega arith)
+  absorbing_at : (j : Junction) → formula_of rs (absorbing_of j) ≡ absorbing j
+  absorbing_at And = tree_bot rs ok
+  absorbing_at Or = tree_top rs ok
 
-  module _ (x y : ℕ) (lx : x < length rs) (ly : y < length rs) where
-    abbrev Both : (Formula → Formula → Formula) → Option ℕ → Type 0
-    Both j o = Placed (formulas_of rs) (j (formula_of rs x) (formula_of rs y)) o
+  neutral_at : (j : Junction) → formula_of rs (neutral_of j) ≡ neutral j
+  neutral_at And = tree_top rs ok
+  neutral_at Or = tree_bot rs ok
 
-    place_of : (j : Formula → Formula → Formula) (k : ℕ) → k < length rs → formula_of rs k ≡ j (formula_of rs x) (formula_of rs y) → Both j (Some k)
-    place_of j k l e = (omega (arith, l, trees_long rs ok), e)
+  absorbing_listed : (j : Junction) → absorbing_of j < length rs
+  absorbing_listed And = omega (arith, ok.table.two)
+  absorbing_listed Or = omega (arith, ok.table.two)
 
-    two_others : (x ≡ 0 → ⊥) → (y ≡ 0 → ⊥) → (x ≡ 1 → ⊥) → (y ≡ 1 → ⊥) → (kind (formula_of rs x) ≡ other) × (kind (formula_of rs y) ≡ other)
-    two_others p q r s = (plain x lx p r, plain y ly q s)
+  plain : (j : Junction) (x : ℕ) → x < length rs → (x ≡ absorbing_of j → ⊥) → (x ≡ neutral_of j → ⊥) → kind (formula_of rs x) ≡ other
+  plain And x l p q = tree_plain rs ok x l (omega arith)
+  plain Or x l p q = tree_plain rs ok x l (omega arith)
 
-    pub conjoin_false : (x ≡ 0) ⊎ ((x ≡ 0 → ⊥) × (y ≡ 0)) → Both conjoin (Some 0)
-    conjoin_false h =
-        place_of conjoin 0 (omega (arith, ok.table.two))
-        (tree_bot rs ok ∙ sym (elim h [
-          | inl e ↦ ap (λ t. conjoin t (formula_of rs y)) (ap (formula_of rs) e ∙ tree_bot rs ok)
-          | inr e ↦ ap (λ t. conjoin (formula_of rs x) t) (ap (formula_of rs) e.1 ∙ tree_bot rs ok) ∙ conjoin_bot (formula_of rs x)
+  module _ (j : Junction) (x y : ℕ) (lx : x < length rs) (ly : y < length rs) where
+    abbrev Both : Option ℕ → Type 0
+    Both o = Placed (formulas_of rs) (join_of j (formula_of rs x) (formula_of rs y)) o
+
+    place_of : (k : ℕ) → k < length rs → formula_of rs k ≡ join_of j (formula_of rs x) (formula_of rs y) → Both (Some k)
+    place_of k l e = (omega (arith, l, trees_long rs ok), e)
+
+    pub joined_absorbing : (x ≡ absorbing_of j) ⊎ ((x ≡ absorbing_of j → ⊥) × (y ≡ absorbing_of j)) → Both (Some (absorbing_of j))
+    joined_absorbing h =
+        place_of (absorbing_of j) (absorbing_listed j)
+        (absorbing_at j ∙ sym (elim h [
+          | inl e ↦ ap (λ t. join_of j t (formula_of rs y)) (ap (formula_of rs) e ∙ absorbing_at j) ∙ absorbing_first j (formula_of rs y)
+          | inr e ↦ ap (λ t. join_of j (formula_of rs x) t) (ap (formula_of rs) e.1 ∙ absorbing_at j) ∙ absorbing_second j (formula_of rs x)
         ]))
 
-    pub conjoin_left : x ≡ 1 → Both conjoin (Some y)
-    conjoin_left e = place_of conjoin y ly (sym (ap (λ t. conjoin t (formula_of rs y)) (ap (formula_of rs) e ∙ tree_top rs ok)))
+    pub joined_first_neutral : x ≡ neutral_of j → Both (Some y)
+    joined_first_neutral e =
+        place_of y ly
+        (sym (ap (λ t. join_of j t (formula_of rs y)) (ap (formula_of rs) e ∙ neutral_at j) ∙ neutral_first j (formula_of rs y)))
 
-    pub conjoin_right : y ≡ 1 → Both conjoin (Some x)
-    conjoin_right e =
-        place_of conjoin x lx (sym (ap (λ t. conjoin (formula_of rs x) t) (ap (formula_of rs) e ∙ tree_top rs ok) ∙ conjoin_top (formula_of rs x)))
+    pub joined_second_neutral : y ≡ neutral_of j → Both (Some x)
+    joined_second_neutral e =
+        place_of x lx
+        (sym (ap (λ t. join_of j (formula_of rs x) t) (ap (formula_of rs) e ∙ neutral_at j) ∙ neutral_second j (formula_of rs x)))
 
-    pub conjoin_found : (x ≡ 0 → ⊥) → (y ≡ 0 → ⊥) → (x ≡ 1 → ⊥) → (y ≡ 1 → ⊥) → (o : Option ℕ)
-        → Found (map key_of rs) (key_of (pair_of 4 x y)) o → Both conjoin o
-    conjoin_found p q r s o h =
-        let k = two_others p q r s in
-        subst (λ (t : Formula). Placed (formulas_of rs) t o) (λ i. conjoin_by (sym k.0 i) (sym k.1 i) (formula_of rs x) (formula_of rs y))
-        (conj_placed x y lx ly o h)
-
-    pub disjoin_true : (x ≡ 1) ⊎ ((x ≡ 1 → ⊥) × (y ≡ 1)) → Both disjoin (Some 1)
-    disjoin_true h =
-        place_of disjoin 1 (omega (arith, ok.table.two))
-        (tree_top rs ok ∙ sym (elim h [
-          | inl e ↦ ap (λ t. disjoin t (formula_of rs y)) (ap (formula_of rs) e ∙ tree_top rs ok)
-          | inr e ↦ ap (λ t. disjoin (formula_of rs x) t) (ap (formula_of rs) e.1 ∙ tree_top rs ok) ∙ disjoin_top (formula_of rs x)
-        ]))
-
-    pub disjoin_left : x ≡ 0 → Both disjoin (Some y)
-    disjoin_left e = place_of disjoin y ly (sym (ap (λ t. disjoin t (formula_of rs y)) (ap (formula_of rs) e ∙ tree_bot rs ok)))
-
-    pub disjoin_right : y ≡ 0 → Both disjoin (Some x)
-    disjoin_right e =
-        place_of disjoin x lx (sym (ap (λ t. disjoin (formula_of rs x) t) (ap (formula_of rs) e ∙ tree_bot rs ok) ∙ disjoin_bot (formula_of rs x)))
-
-    pub disjoin_found : (x ≡ 0 → ⊥) → (y ≡ 0 → ⊥) → (x ≡ 1 → ⊥) → (y ≡ 1 → ⊥) → (o : Option ℕ)
-        → Found (map key_of rs) (key_of (pair_of 5 x y)) o → Both disjoin o
-    disjoin_found p q r s o h =
-        let k = two_others p q r s in
-        subst (λ (t : Formula). Placed (formulas_of rs) t o) (λ i. disjoin_by (sym k.0 i) (sym k.1 i) (formula_of rs x) (formula_of rs y))
-        (disj_placed x y lx ly o h)
+    pub joined_found : (x ≡ absorbing_of j → ⊥) → (y ≡ absorbing_of j → ⊥) → (x ≡ neutral_of j → ⊥) → (y ≡ neutral_of j → ⊥) → (o : Option ℕ)
+        → ListedAt (entry_of_both j x y) o → Both o
+    joined_found p q r s o h =
+        subst (λ (t : Formula). Placed (formulas_of rs) t o)
+        (others_joined j (formula_of rs x) (formula_of rs y) (plain j x lx p r) (plain j y ly q s)) (both_placed x y lx ly o j h)
 
   -- one answer only
   pub one_answer : (R : Reading) (f : Formula) (o p : Option ℕ) → Rested R (formulas_of rs) f o → Rested R (formulas_of rs) f p → o ≡ p

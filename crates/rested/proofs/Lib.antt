@@ -1,4 +1,3 @@
-pub mod Bits
 pub mod Trees
 pub mod Placed
 pub mod Found

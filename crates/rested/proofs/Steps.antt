@@ -1,15 +1,19 @@
 -- The rests of X, G and F, and of an entry from those before it.
 use Rattle.std.proofs.Common.{◌≡◌, ℕ, zero, suc, ◌-◌, ◌<◌, ◌≤◌, List, [], ◌∷◌, ◌++◌, length, get_or, Some, None, Option, sym, refl, ◌∙◌, subst, arith}
-use Rattle.temporal.specs.Formula.{Formula, bot, next, always, eventually, Reading, rest, conjoin, disjoin}
+use Rattle.temporal.specs.Formula.{Formula, bot, next, Reading, rest}
 use Rattle.tableau.specs.Met.{met}
 use Rattle.index.specs.declared.Slot.{Slot}
 use Rattle.records.specs.declared.FormulaRecord.{FormulaRecord}
 use Rattle.rested.specs.declared.key.FormulaKey.{FormulaKey}
 use Rattle.records.specs.Table.{formulas_of}
+use Rattle.rested.specs.declared.junction.Junction.{Junction}
+use Rattle.rested.specs.declared.junction.Junction.TheVariants.{And, Or}
+use Rattle.rested.specs.Junctions.{join_of, range_of}
 use Rattle.rested.specs.Listing.{Ready}
 use Rattle.rested.specs.Rests.{Placed, Rested}
 use Rattle.rested.specs.Steps.{JoinedBoth}
 use Rattle.rested.proofs.Trees.{trees_long}
+use Rattle.rested.proofs.Found.{operator_of}
 use Rattle.rested.proofs.Placed.{rested_alone, rested_like, rested_no_left, rested_no_right, rested_both}
 use Rattle.rested.proofs.Placed.{rested_no_body, rested_no_shorter, rested_on}
 
@@ -38,8 +42,8 @@ pub record Ranged (R : Reading) (operator : ℕ → ℕ → Formula → Formula)
   pub on_met : (m : ℕ) (f : Formula) → met R (operator 0 (suc m) f) ≡ rest R (operator 0 (suc m) f) ∷ (operator 0 m f ∷ met R f)
   pub on_rest : (m : ℕ) (f : Formula) → rest R (operator 0 (suc m) f) ≡ join (rest R f) (operator 0 m f)
 
-pub always_ranged : (R : Reading) → Ranged R always conjoin
-always_ranged R = record {
+pub ranged : (R : Reading) (j : Junction) → Ranged R (range_of j) (join_of j)
+ranged R And = record {
   later_met = λ n m f. refl;
   later_rest = λ n m f. refl;
   last_met = λ f. refl;
@@ -47,9 +51,7 @@ always_ranged R = record {
   on_met = λ m f. refl;
   on_rest = λ m f. refl;
 }
-
-pub eventually_ranged : (R : Reading) → Ranged R eventually disjoin
-eventually_ranged R = record {
+ranged R Or = record {
   later_met = λ n m f. refl;
   later_rest = λ n m f. refl;
   last_met = λ f. refl;
@@ -98,19 +100,24 @@ module _ (R : Reading) (operator : ℕ → ℕ → Formula → Formula) (join : 
         (shorter_on m f x y r p (subst (λ (k : ℕ). Placed (formulas_of rs) (operator 0 k f) y) e q) j)
 
 -- ── & and | ──
-module _ (R : Reading) (operator join : Formula → Formula → Formula)
-    (is_met : (f g : Formula) → met R (operator f g) ≡ rest R (operator f g) ∷ (met R f ++ met R g))
-    (is_rest : (f g : Formula) → rest R (operator f g) ≡ join (rest R f) (rest R g))
-    (rs : List FormulaRecord) (slots : List (Slot FormulaKey)) (ready : Ready rs slots) where
+module _ (R : Reading) (j : Junction) (rs : List FormulaRecord) (slots : List (Slot FormulaKey)) (ready : Ready rs slots) where
+  is_met : (j : Junction) (f g : Formula) → met R (operator_of j f g) ≡ rest R (operator_of j f g) ∷ (met R f ++ met R g)
+  is_met And f g = refl
+  is_met Or f g = refl
+
+  is_rest : (j : Junction) (f g : Formula) → rest R (operator_of j f g) ≡ join_of j (rest R f) (rest R g)
+  is_rest And f g = refl
+  is_rest Or f g = refl
+
   pub pair_on : (f g : Formula) (x y r : Option ℕ) → Rested R (formulas_of rs) f x → Rested R (formulas_of rs) g y
-      → JoinedBoth join slots x y r → Rested R (formulas_of rs) (operator f g) r
+      → JoinedBoth (join_of j) slots x y r → Rested R (formulas_of rs) (operator_of j f g) r
   pair_on f g None y r p q e =
-      subst (λ (o : Option ℕ). Rested R (formulas_of rs) (operator f g) o) (sym e)
-      (rested_no_left R (formulas_of rs) (operator f g) f g join (is_met f g) (is_rest f g) p)
+      subst (λ (o : Option ℕ). Rested R (formulas_of rs) (operator_of j f g) o) (sym e)
+      (rested_no_left R (formulas_of rs) (operator_of j f g) f g (join_of j) (is_met j f g) (is_rest j f g) p)
   pair_on f g (Some x) None r p q e =
-      subst (λ (o : Option ℕ). Rested R (formulas_of rs) (operator f g) o) (sym e)
-      (rested_no_right R (formulas_of rs) (operator f g) f g join (is_met f g) (is_rest f g) q)
-  pair_on f g (Some x) (Some y) r p q j =
+      subst (λ (o : Option ℕ). Rested R (formulas_of rs) (operator_of j f g) o) (sym e)
+      (rested_no_right R (formulas_of rs) (operator_of j f g) f g (join_of j) (is_met j f g) (is_rest j f g) q)
+  pair_on f g (Some x) (Some y) r p q both =
       let long = trees_long rs ready.listing in
-      rested_both R (formulas_of rs) (operator f g) f g join (is_met f g) (is_rest f g) x y r p q
-      (j rs ready (omega (arith, p.1, long)) (omega (arith, q.1, long)))
+      rested_both R (formulas_of rs) (operator_of j f g) f g (join_of j) (is_met j f g) (is_rest j f g) x y r p q
+      (both rs ready (omega (arith, p.1, long)) (omega (arith, q.1, long)))

@@ -1,4 +1,5 @@
 pub mod Codes
+pub mod Junctions
 pub mod Listing
 pub mod Rests
 pub mod Steps

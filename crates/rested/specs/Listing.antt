@@ -14,13 +14,6 @@ pub record InForm (rs : List FormulaRecord) : Type 0 where
   pub spec : Spec
   pub table : Table spec rs
 
--- the record of a conjunction (kind 4) or disjunction (kind 5), and of an X (kind 6), G (kind 7) or F (kind 8)
-abbrev pub pair_of : ℕ → ℕ → ℕ → FormulaRecord
-pair_of k a b = record { kind = k; variable = 0; a = a; b = b; n = 0; m = 0 }
-
-abbrev pub timed_of : ℕ → ℕ → ℕ → ℕ → FormulaRecord
-timed_of k a n m = record { kind = k; variable = 0; a = a; b = 0; n = n; m = m }
-
 -- a record as a key of the index, and the code of a key
 abbrev pub key_of : FormulaRecord → FormulaKey
 key_of f = record { formula = f }

@@ -10,12 +10,7 @@ use Rattle.records.specs.Table.{formulas_of, formula_of, entry_at}
 use Rattle.rested.specs.Listing.{Ready, key_of}
 use Rattle.rested.specs.Rests.{Placed, Rested}
 
--- two answers together: both, or none where one is none
-abbrev pub both_of : Option ℕ → Option ℕ → Option (ℕ × ℕ)
-both_of None y = None
-both_of (Some x) None = None
-both_of (Some x) (Some y) = Some (x, y)
-
+-- an answer says where a list that the slots index has the record, or that it lacks it
 abbrev pub Listed : List (Slot FormulaKey) → FormulaRecord → Option ℕ → Type 0
 Listed slots f r = (rs : List FormulaRecord) → Ready rs slots → Found (map key_of rs) (key_of f) r
 

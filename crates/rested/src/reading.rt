@@ -1,12 +1,12 @@
 // Readings: which literals count as true.
 ghost use Rattle.std.specs.Prelude.{◌≡◌, ℕ, Bool};
-ghost use Rattle.temporal.specs.Game.{bit, value};
+ghost use Rattle.temporal.specs.Game.{value};
 ghost use Rattle.tableau.specs.Moves.{cautious, generous};
 ghost use Rattle.records.specs.Raw.{move_of};
 
-use records::MoveRecord;
+use records::{MoveRecord, bit};
 
-// A reading is the set of literals that it counts as true: `positive` is a variable, otherwise its negation.
+/// A reading is the set of literals that it counts as true: `positive` is a variable, otherwise its negation.
 pub trait Reading {
     ghost literals: { Self → Bool → ℕ → Bool };
 
@@ -14,33 +14,26 @@ pub trait Reading {
         ensures { result ≡ literals self.now positive variable };
 }
 
-// Counts a literal as true only if the move fixes it so.
+/// Counts a literal as true only if the move fixes it so.
 #[derive(Clone, Copy)]
 pub struct Cautious(pub MoveRecord);
 
-// Counts a literal as false only if the move fixes the opposite.
+/// Counts a literal as false only if the move fixes the opposite.
 #[derive(Clone, Copy)]
 pub struct Generous(pub MoveRecord);
 
-// Bit i of 16 bits; all others are 0.
-fn bit_of(bits: u16, i: u8) -> bool
-    ensures { result ≡ bit bits i }
-{
-    i < 16 && (bits >> i) % 2 == 1
-}
-
-// The bit of a variable: environment variables are 0 to 15, system variables follow from 16 on.
+/// The bit of a variable: environment variables are 0 to 15, system variables follow from 16 on.
 fn value_of(env: u16, sys: u16, variable: u8) -> bool
     ensures { result ≡ value env sys variable }
 {
     if variable < 16 {
-        bit_of(env, variable)
+        bit(env, variable)
     } else {
-        bit_of(sys, variable - 16)
+        bit(sys, variable - 16)
     }
 }
 
-// Whether the move fixes the variable to this value.
+/// Whether the move fixes the variable to this value.
 fn fixes(m: &MoveRecord, positive: bool, variable: u8) -> bool
     ensures { result ≡ cautious (move_of m.now) positive variable }
 {

@@ -1,108 +1,114 @@
-use Rattle.std.proofs.Common.{true, false, get_or, Some, None, refl, arith}
-use Rattle.temporal.specs.Formula.{conj, disj, conjoin, disjoin}
+use Rattle.std.proofs.Common.{◌≡◌, ℕ, true, false, Ok, Some, Option, sym, subst, arith}
+use Rattle.formulas.specs.declared.Formula.TheVariants as entry
+use Rattle.records.specs.Kinds.{named}
 use Rattle.records.specs.Table.{formulas_of, formula_of}
+use Rattle.rested.specs.declared.junction.Junction.TheVariants.{And, Or}
+use Rattle.rested.specs.Rests.{Rested}
 use Rattle.rested.proofs.Steps.{pair_on}
-use Rattle.rested.proofs.Entries.{rested_entry, rested_bot, rested_top, rested_literal, known_kind}
-use Rattle.rested.proofs.Entries.{and_parts, or_parts, next_parts, always_parts, eventually_parts}
-use Rattle.rested.proofs.Entries.{recalled_rested}
+use Rattle.rested.proofs.Entries.{named_by, named_formed, rested_named, rested_bot, rested_top, rested_literal}
 use Rattle.rested.proofs.rest.rest_of.Goals as goal
 
-pub returns-in-0 : goal.returns-in-0
-returns-in-0 g c rs i ready l e before =
+pub returns-in-False : goal.returns-in-False
+returns-in-False g c rs i ready l e before =
     let R = g.R.Reading.literals c.args.reading.now in
-    let f = c.args.f in
     let ok = ready.listing in
-    rested_entry rs ok i l f e R 0 (Some 0) c.in-0.is (rested_bot rs ok R)
+    let f = c.args.f in
+    let is : named f ≡ Ok (entry.False) =
+    named_by _ _ _ _ _ c.try_from.ensures c.ok.ensures.value c.in_ok-ok.was c.in-False.is in
+    rested_named rs ok i l f e R entry.False (Some 0) is (rested_bot rs ok R)
 
-pub returns-in-1 : goal.returns-in-1
-returns-in-1 g c rs i ready l e before =
+pub returns-in-True : goal.returns-in-True
+returns-in-True g c rs i ready l e before =
     let R = g.R.Reading.literals c.args.reading.now in
-    let f = c.args.f in
     let ok = ready.listing in
-    rested_entry rs ok i l f e R 1 (Some 1) c.in-1.is (rested_top rs ok R)
+    let f = c.args.f in
+    let is : named f ≡ Ok (entry.True) =
+    named_by _ _ _ _ _ c.try_from.ensures c.ok.ensures.value c.in_ok-ok.was c.in-True.is in
+    rested_named rs ok i l f e R entry.True (Some 1) is (rested_top rs ok R)
 
-pub returns-in-2 : goal.returns-in-2
-returns-in-2 g c rs i ready l e before =
+pub returns-in-Variable : goal.returns-in-Variable
+returns-in-Variable g c rs i ready l e before =
     let R = g.R.Reading.literals c.args.reading.now in
-    let f = c.args.f in
     let ok = ready.listing in
-    let o = c.rest_of_literal.result in
-    rested_entry rs ok i l f e R 2 o c.in-2.is (rested_literal rs ok R true f.variable o c.rest_of_literal.ensures)
+    let f = c.args.f in
+    let is : named f ≡ Ok (entry.Variable c.in-Variable.v) =
+    named_by _ _ _ _ _ c.try_from.ensures c.ok.ensures.value c.in_ok-ok.was c.in-Variable.is in
+    rested_named rs ok i l f e R (entry.Variable c.in-Variable.v) (Some c.from.result) is
+    (rested_literal rs ok R true c.in-Variable.v c.from.result c.counts.result c.from.ensures c.counts.ensures)
 
-pub returns-in-3 : goal.returns-in-3
-returns-in-3 g c rs i ready l e before =
+pub returns-in-Negated : goal.returns-in-Negated
+returns-in-Negated g c rs i ready l e before =
     let R = g.R.Reading.literals c.args.reading.now in
-    let f = c.args.f in
     let ok = ready.listing in
-    let o = c.rest_of_literal-in-3.result in
-    rested_entry rs ok i l f e R 3 o c.in-3.is (rested_literal rs ok R false f.variable o c.rest_of_literal-in-3.ensures)
+    let f = c.args.f in
+    let is : named f ≡ Ok (entry.Negated c.in-Negated.v) =
+    named_by _ _ _ _ _ c.try_from.ensures c.ok.ensures.value c.in_ok-ok.was c.in-Negated.is in
+    rested_named rs ok i l f e R (entry.Negated c.in-Negated.v) (Some c.from-in-Negated.result) is
+    (rested_literal rs ok R false c.in-Negated.v c.from-in-Negated.result c.counts-in-Negated.result c.from-in-Negated.ensures c.counts-in-Negated.ensures)
 
-pub returns-in-4 : goal.returns-in-4
-returns-in-4 g c rs i ready l e before =
+pub returns-in-And : goal.returns-in-And
+returns-in-And g c rs i ready l e before =
     let R = g.R.Reading.literals c.args.reading.now in
-    let f = c.args.f in
     let ok = ready.listing in
-    let p = and_parts rs ok i l f e c.in-4.is in
-    let o = c.conjoin_both.result in
-    let x = c.recalled.result in
-    let y = c.recalled-in-4.result in
-    rested_entry rs ok i l f e R 4 o c.in-4.is
-    (pair_on R conj conjoin (λ f g. refl) (λ f g. refl) rs c.args.slots.now ready (formula_of rs f.a) (formula_of rs f.b) x y o
-    (recalled_rested R (formulas_of rs) (formula_of rs f.a) (get_or c.args.memo.now f.a None)
-    c.recalled.result c.recalled.ensures (before f.a p.0.1))
-    (recalled_rested R (formulas_of rs) (formula_of rs f.b) (get_or c.args.memo.now f.b None)
-    c.recalled-in-4.result c.recalled-in-4.ensures (before f.b p.1.1))
-    c.conjoin_both.ensures)
+    let f = c.args.f in
+    let is : named f ≡ Ok (entry.And c.in-And.a c.in-And.b) =
+    named_by _ _ _ _ _ c.try_from.ensures c.ok.ensures.value c.in_ok-ok.was c.in-And.is in
+    let a = c.in-And.a in
+    let b = c.in-And.b in
+    let p = named_formed rs ok i l f e (entry.And a b) is in
+    rested_named rs ok i l f e R (entry.And a b) c.joined_both.result is
+    (pair_on R And rs c.args.slots.now ready (formula_of rs a) (formula_of rs b) c.recalled.result c.recalled-in-And.result c.joined_both.result
+    (subst (λ (o : Option ℕ). Rested R (formulas_of rs) (formula_of rs a) o) (sym c.recalled.ensures) (before a p.0.1))
+    (subst (λ (o : Option ℕ). Rested R (formulas_of rs) (formula_of rs b) o) (sym c.recalled-in-And.ensures) (before b p.1.1)) c.joined_both.ensures)
 
-pub returns-in-5 : goal.returns-in-5
-returns-in-5 g c rs i ready l e before =
+pub returns-in-Or : goal.returns-in-Or
+returns-in-Or g c rs i ready l e before =
     let R = g.R.Reading.literals c.args.reading.now in
-    let f = c.args.f in
     let ok = ready.listing in
-    let p = or_parts rs ok i l f e c.in-5.is in
-    let o = c.disjoin_both.result in
-    let x = c.recalled-in-5.result in
-    let y = c.recalled-in-5-2.result in
-    rested_entry rs ok i l f e R 5 o c.in-5.is
-    (pair_on R disj disjoin (λ f g. refl) (λ f g. refl) rs c.args.slots.now ready (formula_of rs f.a) (formula_of rs f.b) x y o
-    (recalled_rested R (formulas_of rs) (formula_of rs f.a) (get_or c.args.memo.now f.a None)
-    c.recalled-in-5.result c.recalled-in-5.ensures (before f.a p.0.1))
-    (recalled_rested R (formulas_of rs) (formula_of rs f.b) (get_or c.args.memo.now f.b None)
-    c.recalled-in-5-2.result c.recalled-in-5-2.ensures (before f.b p.1.1))
-    c.disjoin_both.ensures)
+    let f = c.args.f in
+    let is : named f ≡ Ok (entry.Or c.in-Or.a c.in-Or.b) =
+    named_by _ _ _ _ _ c.try_from.ensures c.ok.ensures.value c.in_ok-ok.was c.in-Or.is in
+    let a = c.in-Or.a in
+    let b = c.in-Or.b in
+    let p = named_formed rs ok i l f e (entry.Or a b) is in
+    rested_named rs ok i l f e R (entry.Or a b) c.joined_both-in-Or.result is
+    (pair_on R Or rs c.args.slots.now ready (formula_of rs a) (formula_of rs b) c.recalled-in-Or.result c.recalled-in-Or-2.result c.joined_both-in-Or.result
+    (subst (λ (o : Option ℕ). Rested R (formulas_of rs) (formula_of rs a) o) (sym c.recalled-in-Or.ensures) (before a p.0.1))
+    (subst (λ (o : Option ℕ). Rested R (formulas_of rs) (formula_of rs b) o) (sym c.recalled-in-Or-2.ensures) (before b p.1.1)) c.joined_both-in-Or.ensures)
 
-pub returns-in-6 : goal.returns-in-6
-returns-in-6 g c rs i ready l e before =
+pub returns-in-Next : goal.returns-in-Next
+returns-in-Next g c rs i ready l e before =
     let R = g.R.Reading.literals c.args.reading.now in
-    let f = c.args.f in
     let ok = ready.listing in
-    let p = next_parts rs ok i l f e c.in-6.is in
-    let o = c.rest_of_next.result in
-    rested_entry rs ok i l f e R 6 o c.in-6.is (c.rest_of_next.ensures rs R ready (omega (arith, p.1.1)) p.0.0)
+    let f = c.args.f in
+    let is : named f ≡ Ok (entry.Next c.in-Next.n c.in-Next.a) =
+    named_by _ _ _ _ _ c.try_from.ensures c.ok.ensures.value c.in_ok-ok.was c.in-Next.is in
+    let p = named_formed rs ok i l f e (entry.Next c.in-Next.n c.in-Next.a) is in
+    rested_named rs ok i l f e R (entry.Next c.in-Next.n c.in-Next.a) c.rest_of_next.result is
+    (c.rest_of_next.ensures rs R ready (omega (arith, p.1.1)) p.0)
 
-pub returns-in-7 : goal.returns-in-7
-returns-in-7 g c rs i ready l e before =
+pub returns-in-Always : goal.returns-in-Always
+returns-in-Always g c rs i ready l e before =
     let R = g.R.Reading.literals c.args.reading.now in
-    let f = c.args.f in
     let ok = ready.listing in
-    let p = always_parts rs ok i l f e c.in-7.is in
-    let o = c.rest_of_always.result in
-    rested_entry rs ok i l f e R 7 o c.in-7.is
-    (c.rest_of_always.ensures rs R ready (omega (arith, p.1.1)) p.0.0
-    (recalled_rested R (formulas_of rs) (formula_of rs f.a) (get_or c.args.memo.now f.a None)
-    c.recalled-in-7.result c.recalled-in-7.ensures (before f.a p.1.1)))
+    let f = c.args.f in
+    let is : named f ≡ Ok (entry.Always c.in-Always.n c.in-Always.m c.in-Always.a) =
+    named_by _ _ _ _ _ c.try_from.ensures c.ok.ensures.value c.in_ok-ok.was c.in-Always.is in
+    let a = c.in-Always.a in
+    let p = named_formed rs ok i l f e (entry.Always c.in-Always.n c.in-Always.m a) is in
+    rested_named rs ok i l f e R (entry.Always c.in-Always.n c.in-Always.m a) c.rest_of_range.result is
+    (c.rest_of_range.ensures rs R ready (omega (arith, p.1.1)) p.0
+    (subst (λ (o : Option ℕ). Rested R (formulas_of rs) (formula_of rs a) o) (sym c.recalled-in-Always.ensures) (before a p.1.1)))
 
-pub returns-in-8 : goal.returns-in-8
-returns-in-8 g c rs i ready l e before =
+pub returns-in-Eventually : goal.returns-in-Eventually
+returns-in-Eventually g c rs i ready l e before =
     let R = g.R.Reading.literals c.args.reading.now in
-    let f = c.args.f in
     let ok = ready.listing in
-    let p = eventually_parts rs ok i l f e c.in-8.is in
-    let o = c.rest_of_eventually.result in
-    rested_entry rs ok i l f e R 8 o c.in-8.is
-    (c.rest_of_eventually.ensures rs R ready (omega (arith, p.1.1)) p.0.0
-    (recalled_rested R (formulas_of rs) (formula_of rs f.a) (get_or c.args.memo.now f.a None)
-    c.recalled-in-8.result c.recalled-in-8.ensures (before f.a p.1.1)))
-
-pub returns-in_default : goal.returns-in_default
-returns-in_default g c rs i ready l e before = absurd (known_kind rs ready.listing i l c.args.f e (omega arith))
+    let f = c.args.f in
+    let is : named f ≡ Ok (entry.Eventually c.in-Eventually.n c.in-Eventually.m c.in-Eventually.a) =
+    named_by _ _ _ _ _ c.try_from.ensures c.ok.ensures.value c.in_ok-ok.was c.in-Eventually.is in
+    let a = c.in-Eventually.a in
+    let p = named_formed rs ok i l f e (entry.Eventually c.in-Eventually.n c.in-Eventually.m a) is in
+    rested_named rs ok i l f e R (entry.Eventually c.in-Eventually.n c.in-Eventually.m a) c.rest_of_range-in-Eventually.result is
+    (c.rest_of_range-in-Eventually.ensures rs R ready (omega (arith, p.1.1)) p.0
+    (subst (λ (o : Option ℕ). Rested R (formulas_of rs) (formula_of rs a) o) (sym c.recalled-in-Eventually.ensures) (before a p.1.1)))

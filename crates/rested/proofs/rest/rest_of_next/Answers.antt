@@ -15,5 +15,4 @@ pub returns : goal.returns
 returns c rs R ready la l =
     next_later R (formulas_of rs) (formula_of rs c.args.a) c.args.n c.listed.result (omega arith)
     (next_placed rs ready.listing c.args.a (c.args.n - 1) 0 la c.listed.result
-    (subst (λ (f : FormulaRecord). Listed c.args.slots.now f c.listed.result) c.later_next.ensures
-    c.listed.ensures rs ready))
+    (subst (λ (f : FormulaRecord). Listed c.args.slots.now f c.listed.result) c.into.ensures c.listed.ensures rs ready))

@@ -6,7 +6,7 @@ use Rattle.rested.proofs.rest.rests.Given as goal
 
 abbrev pub invariant-loop-i : goal.invariant-loop-i
 invariant-loop-i g l =
-    (Ready l.records l.slots → (k : ℕ) → k < l.i
+    (Ready l.records l.slots → (k : ℕ) → k < length l.yielded
     → Rested (g.R.Reading.literals l.reading) (formulas_of l.records) (formula_of l.records k) (get_or l.memo k None))
-    × ((k : ℕ) → l.i ≤ k → get_or l.memo k None ≡ None)
+    × ((k : ℕ) → length l.yielded ≤ k → get_or l.memo k None ≡ None)
     × (length l.memo ≡ 1024)

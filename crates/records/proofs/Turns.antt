@@ -1,0 +1,20 @@
+-- A `for` over the first n elements of a list, each with its number: what a turn has, and where the loop ends.
+use Rattle.std.proofs.Common.{◌≡◌, ℕ, ◌<◌, ◌≤◌, List, length, get_or, take, min, sym, ap, ◌∙◌, arith}
+use Rattle.std.specs.List.{enumerate_from}
+use Rattle.std.proofs.lemmas.List.{get_or-take, length-take}
+use Rattle.std.proofs.lemmas.List.FromFn.{length-enumerate_from, get_or-enumerate_from}
+
+module _ {A : Type 0} (xs : List A) (n : ℕ) where
+  abbrev pub numbered : List (ℕ × A)
+  numbered = take n (enumerate_from 0 xs)
+
+  pub length-numbered : length numbered ≡ min n (length xs)
+  length-numbered = length-take n (enumerate_from 0 xs) ∙ ap (min n) (length-enumerate_from 0 xs)
+
+  pub turn : (k i : ℕ) (x : A) → (k < length numbered) × ((i, x) ≡ get_or numbered k (i, x))
+      → (k < n) × (k < length xs) × (i ≡ k) × (x ≡ get_or xs k x)
+  turn k i x h =
+      let l : k < n = omega (arith, h.0, length-numbered) in
+      let m : k < length xs = omega (arith, h.0, length-numbered) in
+      let e = h.1 ∙ get_or-take n (enumerate_from 0 xs) k (i, x) l ∙ get_or-enumerate_from 0 xs k (i, x) m in
+      (l, m, omega (arith, ap (λ (p : ℕ × A). p.0) e), ap (λ (p : ℕ × A). p.1) e)
