@@ -1,10 +1,10 @@
 -- A record whose parts have their numbers is listed exactly where the entry's formula is.
-use Rattle.std.proofs.Common.{◌≡◌, ℕ, zero, suc, ◌+◌, ◌<◌, true, false, ltb, ◌≢◌, List, [], ◌∷◌, map, length, get_or, set, Some, Option, sym, refl, ◌∙◌, subst, inl, arith, below_more}
+use Rattle.std.proofs.Common.{◌≡◌, ℕ, zero, suc, ◌+◌, ◌<◌, true, false, ltb, ◌≢◌, List, [], ◌∷◌, map, length, get_or, set, Some, Option, sym, ap, refl, ◌∙◌, subst, inl, arith, below_more}
 use Rattle.std.specs.List.{slice_get}
 use Rattle.std.proofs.lemmas.List.{get_or-set_same, get_or-set_other}
 use Rattle.std.proofs.lemmas.Option.{slice_get-get_or}
 use Rattle.std.proofs.lemmas.Bool.{and_parts, and_from, and_left, and_right, ltb-true}
-use Rattle.temporal.specs.Formula.{Formula as Tree, bot, top, lit, conj, disj, next, always, eventually}
+use Rattle.temporal.specs.Formula.{Formula as Tree, bot, conj, disj, next, always, eventually}
 use Rattle.temporal.specs.Parts.{member}
 use Rattle.formulas.specs.declared.Formula.{Formula}
 use Rattle.formulas.specs.declared.Formula.TheVariants as entry
@@ -13,42 +13,20 @@ use Rattle.formulas.proofs.Trees.{tree_at_lem, trees_length, ordered_at}
 use Rattle.index.specs.Keyed.{Found}
 use Rattle.index.specs.declared.Slot.{Slot}
 use Rattle.records.specs.declared.FormulaRecord.{FormulaRecord}
+use Rattle.records.specs.Kinds.{recorded}
 use Rattle.records.specs.Table.{formulas_of, formula_of}
 use Rattle.rested.specs.declared.key.FormulaKey.{FormulaKey}
 use Rattle.rested.specs.Listing.{InForm, Ready, key_of}
 use Rattle.rested.specs.Rests.{has_all, Placed}
 use Rattle.rested.specs.Steps.{Listed}
-use Rattle.rested.proofs.Found.{found_placed, conj_placed, disj_placed, next_placed, always_placed, eventually_placed}
+use Rattle.rested.proofs.Found.{ListedAt, found_placed, conj_placed, disj_placed, next_placed, always_placed, eventually_placed}
 use Rattle.rested.proofs.Trees.{trees_long, tree_bot}
-use Rattle.located.specs.Numbers.{leaf_of, record_of, NumberedBelow}
+use Rattle.located.specs.Numbers.{renumbered, NumberedBelow}
 
 module _ (rs : List FormulaRecord) (ok : InForm rs) where
   -- constants and literals have no parts
-  abbrev ListedAt : FormulaRecord → Option ℕ → Type 0
-  ListedAt f o = Found (map key_of rs) (key_of f) o
-
   bot_is : bot ≡ formula_of rs 0
   bot_is = sym (tree_bot rs ok)
-
-  false_placed : (o : Option ℕ) → ListedAt (leaf_of 0 0) o → Placed (formulas_of rs) bot o
-  false_placed o =
-      found_placed rs ok (leaf_of 0 0) o
-      (record { kind = refl; variable = refl; n = refl; m = refl; one = bot_is; two = bot_is; a = inl refl; b = inl refl })
-
-  true_placed : (o : Option ℕ) → ListedAt (leaf_of 1 0) o → Placed (formulas_of rs) top o
-  true_placed o =
-      found_placed rs ok (leaf_of 1 0) o
-      (record { kind = refl; variable = refl; n = refl; m = refl; one = bot_is; two = bot_is; a = inl refl; b = inl refl })
-
-  variable_placed : (v : ℕ) (o : Option ℕ) → ListedAt (leaf_of 2 v) o → Placed (formulas_of rs) (lit true v) o
-  variable_placed v o =
-      found_placed rs ok (leaf_of 2 v) o
-      (record { kind = refl; variable = refl; n = refl; m = refl; one = bot_is; two = bot_is; a = inl refl; b = inl refl })
-
-  negated_placed : (v : ℕ) (o : Option ℕ) → ListedAt (leaf_of 3 v) o → Placed (formulas_of rs) (lit false v) o
-  negated_placed v o =
-      found_placed rs ok (leaf_of 3 v) o
-      (record { kind = refl; variable = refl; n = refl; m = refl; one = bot_is; two = bot_is; a = inl refl; b = inl refl })
 
   -- ts are the formulas of the entries; those before place i have their numbers
   module _ (ts : List Tree) (numbers : List ℕ) (i : ℕ)
@@ -62,11 +40,19 @@ module _ (rs : List FormulaRecord) (ok : InForm rs) where
     abbrev Here : Tree → Type 0
     Here f = Placed (formulas_of rs) f o
 
-    pub entry_placed : (e : Formula) → parts_below i e ≡ true → ListedAt (record_of numbers e) o → Here (grow ts e)
-    entry_placed entry.False h l = false_placed o l
-    entry_placed entry.True h l = true_placed o l
-    entry_placed (entry.Variable v) h l = variable_placed v o l
-    entry_placed (entry.Negated v) h l = negated_placed v o l
+    pub entry_placed : (e : Formula) → parts_below i e ≡ true → ListedAt rs ok (renumbered numbers e) o → Here (grow ts e)
+    entry_placed entry.False h l =
+        found_placed rs ok (recorded entry.False) o
+        (record { kind = refl; variable = refl; n = refl; m = refl; one = bot_is; two = bot_is; a = inl refl; b = inl refl }) l
+    entry_placed entry.True h l =
+        found_placed rs ok (recorded entry.True) o
+        (record { kind = refl; variable = refl; n = refl; m = refl; one = bot_is; two = bot_is; a = inl refl; b = inl refl }) l
+    entry_placed (entry.Variable v) h l =
+        found_placed rs ok (recorded (entry.Variable v)) o
+        (record { kind = refl; variable = refl; n = refl; m = refl; one = bot_is; two = bot_is; a = inl refl; b = inl refl }) l
+    entry_placed (entry.Negated v) h l =
+        found_placed rs ok (recorded (entry.Negated v)) o
+        (record { kind = refl; variable = refl; n = refl; m = refl; one = bot_is; two = bot_is; a = inl refl; b = inl refl }) l
     entry_placed (entry.And a b) h l =
         let p = and_parts (ltb a i) (ltb b i) h in
         let x = get_or numbers a 0 in
@@ -99,17 +85,18 @@ lacks_one ts (f ∷ fs) (suc k) l h = and_right (member f ts) (has_all ts fs) (l
 some_is : {A : Type 0} (x y : A) → Some x ≡ Some y → x ≡ y
 some_is x y e = cc
 
-pub numbered_at : (es : List Formula) (i : ℕ) (d : Formula) (rs : List FormulaRecord) (slots : List (Slot FormulaKey)) (numbers : List ℕ) (f : FormulaRecord) (o : Option ℕ)
-    → Ready rs slots → ordered es ≡ true → i < length es → NumberedBelow i es rs numbers → f ≡ record_of numbers (get_or es i d)
-    → Listed slots f o → Placed (formulas_of rs) (get_or (trees es) i bot) o
-numbered_at es i d rs slots numbers f o ready in_order l below is found =
-    let e = get_or es i d in
-    let here : slice_get es i ≡ Some e = slice_get-get_or es i d l in
+-- e is entry i, x the entry with its parts by their numbers, and f the record of x
+pub numbered_at : (es : List Formula) (slots : List (Slot FormulaKey)) (numbers : List ℕ) (i : ℕ) (e x : Formula) (f : FormulaRecord) (o : Option ℕ)
+    → i < length es → e ≡ get_or es i e → x ≡ renumbered numbers e → f ≡ recorded x → Listed slots f o
+    → (rs : List FormulaRecord) → Ready rs slots → ordered es ≡ true → NumberedBelow i es rs numbers
+    → Placed (formulas_of rs) (get_or (trees es) i bot) o
+numbered_at es slots numbers i e x f o l at is entered found rs ready in_order below =
+    let here : slice_get es i ≡ Some e = slice_get-get_or es i e l ∙ ap Some (sym at) in
     let lt : i < length (trees es) = omega (arith, trees_length es) in
     let tree : get_or (trees es) i bot ≡ grow (trees es) e = some_is _ _ (sym (slice_get-get_or (trees es) i bot lt) ∙ tree_at_lem es i e in_order here) in
     subst (λ (t : Tree). Placed (formulas_of rs) t o) (sym tree)
     (entry_placed rs ready.listing (trees es) numbers i below o e (ordered_at es i e in_order here)
-    (subst (λ (g : FormulaRecord). Found (map key_of rs) (key_of g) o) is (found rs ready)))
+    (subst (λ (g : FormulaRecord). Found (map key_of rs) (key_of g) o) (entered ∙ ap recorded is) (found rs ready)))
 
 -- one more formula has its number
 pub numbered_more : (es : List Formula) (rs : List FormulaRecord) (numbers : List ℕ) (i n : ℕ) → i < length numbers

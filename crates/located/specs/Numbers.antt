@@ -7,26 +7,27 @@ use Rattle.formulas.specs.declared.Formula.TheVariants as entry
 use Rattle.formulas.specs.Trees.{trees, ordered}
 use Rattle.index.specs.declared.Slot.{Slot}
 use Rattle.records.specs.declared.FormulaRecord.{FormulaRecord}
+use Rattle.records.specs.Kinds.{recorded}
 use Rattle.records.specs.Table.{formulas_of}
 use Rattle.rested.specs.declared.key.FormulaKey.{FormulaKey}
-use Rattle.rested.specs.Listing.{Ready, pair_of, timed_of}
+use Rattle.rested.specs.Listing.{Ready}
 use Rattle.rested.specs.Rests.{Placed}
 
--- the record of a constant (kind 0 or 1), or of a literal (kind 2 or 3)
-abbrev pub leaf_of : ℕ → ℕ → FormulaRecord
-leaf_of k v = record { kind = k; variable = v; a = 0; b = 0; n = 0; m = 0 }
+-- an entry with its parts by the numbers that they have in a list
+abbrev pub renumbered : List ℕ → Formula → Formula
+renumbered numbers entry.False = entry.False
+renumbered numbers entry.True = entry.True
+renumbered numbers (entry.Variable v) = entry.Variable v
+renumbered numbers (entry.Negated v) = entry.Negated v
+renumbered numbers (entry.And a b) = entry.And (slice_index numbers a) (slice_index numbers b)
+renumbered numbers (entry.Or a b) = entry.Or (slice_index numbers a) (slice_index numbers b)
+renumbered numbers (entry.Next n a) = entry.Next n (slice_index numbers a)
+renumbered numbers (entry.Always n m a) = entry.Always n m (slice_index numbers a)
+renumbered numbers (entry.Eventually n m a) = entry.Eventually n m (slice_index numbers a)
 
 -- an entry as a record of a card, its parts by the numbers that they have there
 abbrev pub record_of : List ℕ → Formula → FormulaRecord
-record_of numbers entry.False = leaf_of 0 0
-record_of numbers entry.True = leaf_of 1 0
-record_of numbers (entry.Variable v) = leaf_of 2 v
-record_of numbers (entry.Negated v) = leaf_of 3 v
-record_of numbers (entry.And a b) = pair_of 4 (slice_index numbers a) (slice_index numbers b)
-record_of numbers (entry.Or a b) = pair_of 5 (slice_index numbers a) (slice_index numbers b)
-record_of numbers (entry.Next n a) = timed_of 6 (slice_index numbers a) n 0
-record_of numbers (entry.Always n m a) = timed_of 7 (slice_index numbers a) n m
-record_of numbers (entry.Eventually n m a) = timed_of 8 (slice_index numbers a) n m
+record_of numbers e = recorded (renumbered numbers e)
 
 -- the first n formulas of the entries have these numbers in the list of records
 abbrev pub NumberedBelow : ℕ → List Formula → List FormulaRecord → List ℕ → Type 0

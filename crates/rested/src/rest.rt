@@ -46,9 +46,7 @@ fn joined_both(
 ) -> Option<u16>
     ensures { JoinedBoth (join_of junction) slots.now x y result }
 {
-    let x = x?;
-    let y = y?;
-    joined(slots, junction, x, y)
+    joined(slots, junction, x?, y?)
 }
 
 /// The rest of X[n] of entry a.

@@ -1,36 +1,48 @@
-use Rattle.std.proofs.Common.{ℕ, ◌<◌, length, Some, None, ◌∙◌, arith}
-use Rattle.std.proofs.lemmas.List.{length-set, length-replicate}
-use Rattle.formulas.specs.declared.Formula.TheVariants as entry
+use Rattle.std.proofs.Common.{ℕ, ◌<◌, length, set, ◌+◌, Some, None, ◌∙◌, subst, sym, arith}
+use Rattle.std.proofs.lemmas.List.{length-set, length_push}
+use Rattle.std.proofs.lemmas.Iterator.{YieldsList-from_slice, YieldsList-from_take}
+use Rattle.std.proofs.lemmas.Iterator.Consumers.{YieldsList-from_enumerate, YieldsList-turn, YieldsList-end}
+use Rattle.records.proofs.Turns.{turn, length-numbered}
+use Rattle.located.specs.Numbers.{NumberedOrNot, NumberedBelow}
 use Rattle.located.proofs.Numbering.{numbered_at, numbered_more}
 use Rattle.located.proofs.numbers_of.Goals as goal
 
-pub loop-i-init : goal.loop-i-init
-loop-i-init c = (λ rs ready o k h. absurd (omega arith), length-replicate {A = ℕ} 256 0)
+pub returns-in_err-numbers : goal.returns-in_err-numbers
+returns-in_err-numbers c rs ready o few =
+    let es = c.args.entries.now in
+    let k = length c.loop-i.yielded in
+    let t = turn es 256 k c.in-Some.i c.in-Some.entry.now
+    (YieldsList-turn (YieldsList-from_take 256 (YieldsList-from_enumerate (YieldsList-from_slice es (cc)) (cc)) (cc))
+    c.loop-i.yielded _ c.loop-i.yielded_by _ _ _ c.in-Some.is c.next.ensures.steps) in
+    let lacks = numbered_at es c.args.slots.now c.loop-i.numbers k c.in-Some.entry.now c.renumbered.result c.into.result None
+    t.1 t.3 c.renumbered.ensures c.into.ensures c.in_err-numbers.ensures rs ready o (c.loop-i.invariant.0 rs ready o) in
+    subst (NumberedOrNot es rs) (sym c.from_residual.ensures) (k, t.1, lacks)
 
 pub loop-i-preserved : goal.loop-i-preserved
 loop-i-preserved c =
     let es = c.args.entries.now in
-    let i = c.loop-i.i in
+    let k = length c.loop-i.yielded in
+    let i = c.in-Some.i in
     let numbers = c.loop-i.numbers in
-    let n = c.in-Some.number in
-    let l : i < length numbers = omega (arith, c.loop-i.invariant.1, c.min-i-end.ensures) in
-    let h : i < length es = omega (arith, c.min-i-end.ensures) in (
-      λ rs ready o. numbered_more es rs numbers i n l (c.loop-i.invariant.0 rs ready o)
-          (numbered_at es i entry.False rs c.args.slots.now numbers c.record_of.result (Some n) ready o h (c.loop-i.invariant.0 rs ready o)
-          c.record_of.ensures c.in-Some.ensures),
+    let n = c.in_ok-numbers.field-0 in
+    let t = turn es 256 k i c.in-Some.entry.now
+    (YieldsList-turn (YieldsList-from_take 256 (YieldsList-from_enumerate (YieldsList-from_slice es (cc)) (cc)) (cc))
+    c.loop-i.yielded _ c.loop-i.yielded_by _ _ _ c.in-Some.is c.next.ensures.steps) in
+    let l : k < length numbers = omega (arith, c.loop-i.invariant.1, t.0) in
+    let more = length_push c.loop-i.yielded (i, c.in-Some.entry) in (
+      λ rs ready o.
+          let below = c.loop-i.invariant.0 rs ready o in
+          let at = numbered_at es c.args.slots.now numbers k c.in-Some.entry.now c.renumbered.result c.into.result (Some n)
+          t.1 t.3 c.renumbered.ensures c.into.ensures c.in_ok-numbers.ensures rs ready o below in
+          let next = numbered_more es rs numbers k n l below at in
+          subst (λ (j : ℕ). NumberedBelow j es rs (set numbers i n)) (sym more)
+          (subst (λ (j : ℕ). NumberedBelow (k + 1) es rs (set numbers j n)) (sym t.2) next),
       length-set numbers i n ∙ c.loop-i.invariant.1,
     )
 
-pub returns-in_default : goal.returns-in_default
-returns-in_default c rs ready o few =
-    let es = c.args.entries.now in
-    let i = c.loop-i.i in
-    let h : i < length es = omega (arith, c.min-i-end.ensures) in (
-      i,
-      h,
-      numbered_at es i entry.False rs c.args.slots.now c.loop-i.numbers c.record_of.result None ready o h (c.loop-i.invariant.0 rs ready o)
-          c.record_of.ensures c.in_default.ensures,
-    )
-
 pub returns : goal.returns
-returns c rs ready o few k h = c.loop-i.invariant.0 rs ready o k (omega (arith, c.min-i-end.ensures))
+returns c rs ready o few k h =
+    let es = c.args.entries.now in
+    let e = YieldsList-end (YieldsList-from_take 256 (YieldsList-from_enumerate (YieldsList-from_slice es (cc)) (cc)) (cc))
+    c.loop-i.yielded _ c.loop-i.yielded_by _ _ c.in-None.is c.next.ensures.steps in
+    c.loop-i.invariant.0 rs ready o k (omega (arith, h, few, e.1, length-numbered es 256))

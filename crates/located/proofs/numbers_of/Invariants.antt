@@ -7,5 +7,5 @@ use Rattle.located.proofs.numbers_of.Given as goal
 
 abbrev pub invariant-loop-i : goal.invariant-loop-i
 invariant-loop-i l =
-    ((rs : List FormulaRecord) → Ready rs l.slots → ordered l.entries ≡ true → NumberedBelow l.i l.entries rs l.numbers)
+    ((rs : List FormulaRecord) → Ready rs l.slots → ordered l.entries ≡ true → NumberedBelow (length l.yielded) l.entries rs l.numbers)
     × (length l.numbers ≡ 256)
