@@ -1,5 +1,6 @@
 -- One turn of each pass over the records.
-use Rattle.std.proofs.Common.{◌≡◌, ℕ, ◌+◌, ◌<◌, Bool, List, length, get_or, drop, sym, ap, ◌∙◌, add-one}
+use Rattle.std.proofs.Common.{true, false, cond, ◌≡◌, ℕ, suc, ◌+◌, ◌<◌, Bool, List, [], ◌∷◌, length, get_or, drop, sym, ap, refl, ◌∙◌, add-one, arith}
+use Rattle.std.specs.List.{push}
 use Rattle.std.proofs.lemmas.List.{drop_more}
 use Rattle.records.specs.declared.FormulaRecord.{FormulaRecord}
 use Rattle.covered.specs.Marks.{mark_if, covers_range, follows, spread, held_from, range_from, range_if, ranges_from, joined_from}
@@ -39,3 +40,20 @@ module _ (rs : List FormulaRecord) (i : ℕ) (d : FormulaRecord) (l : i < length
 -- what a read past the end would give
 abbrev pub no_record : FormulaRecord
 no_record = record { kind = 0; variable = 0; a = 0; b = 0; n = 0; m = 0 }
+
+-- the last of the records that are left, and none left
+pub held_last : (xs : List FormulaRecord) (x : FormulaRecord) (i j : ℕ) (ms : List Bool) → j ≡ i + length xs
+    → held_from (push xs x) i ms ≡ held_from xs i (spread j x ms)
+held_last [] x i j ms e = let z : i ≡ j = omega arith in ap (λ (k : ℕ). spread k x ms) z
+held_last (y ∷ xs) x i j ms e = ap (spread i y) (held_last xs x (suc i) j ms (omega arith))
+
+pub held_none : (xs : List FormulaRecord) (i : ℕ) (ms : List Bool) → length xs ≡ 0 → held_from xs i ms ≡ ms
+held_none [] i ms e = refl
+held_none (x ∷ xs) i ms e = absurd (omega arith)
+
+-- what an `if` leaves: x where its test t holds, otherwise y
+pub took : {A : Type 0} (t : Bool) (x y z : A) → t ≡ true → z ≡ x → z ≡ cond t x y
+took t x y z h w = w ∙ ap (λ (b : Bool). cond b x y) (sym h)
+
+pub passed : {A : Type 0} (t : Bool) (x y z : A) → t ≡ false → z ≡ y → z ≡ cond t x y
+passed t x y z h w = w ∙ ap (λ (b : Bool). cond b x y) (sym h)

@@ -1,11 +1,11 @@
 // What a set of a card's formulas covers.
 ghost use Rattle.std.specs.Prelude.{◌≡◌};
-ghost use Rattle.covered.specs.Marks.{range_from, range_if, ranges_marks, joined_from, held_marks, covered_marks};
+ghost use Rattle.covered.specs.Marks.{range_from, ranges_marks, joined_from, held_marks, covered_marks};
 ghost use Rattle.covered.specs.Meaning.{MarksCovered, MarksCoveredBy};
 
 use crate::formula::{covers_range, follows_from_parts, is_range};
 use crate::hold::hold;
-use crate::marks::{is_marked, set_mark_if};
+use crate::marks::{is_marked, set_mark};
 use records::FormulaRecord;
 
 /// Marks each formula that a held G or F covers by its range.
@@ -13,22 +13,9 @@ fn cover_range(records: &[FormulaRecord], held: FormulaRecord, covered: &mut [bo
     ensures { covered.new ≡ range_from held records.now 0 covered.old }
 {
     for (i, f) in records.iter().enumerate() {
-        set_mark_if(covers_range(held, *f), covered, i);
-    }
-}
-
-/// Does so for formula i, the record f, if it is held and a G or an F.
-fn cover_range_if_held(
-    records: &[FormulaRecord],
-    held: &[bool; 1024],
-    i: usize,
-    f: FormulaRecord,
-    covered: &mut [bool; 1024],
-)
-    ensures { covered.new ≡ range_if records.now held.now i f covered.old }
-{
-    if is_marked(held, i) && is_range(f) {
-        cover_range(records, f, covered);
+        if covers_range(held, *f) {
+            set_mark(covered, i);
+        }
     }
 }
 
@@ -37,7 +24,9 @@ fn cover_ranges(records: &[FormulaRecord], held: &[bool; 1024], covered: &mut [b
     ensures { covered.new ≡ ranges_marks records.now held.now covered.old }
 {
     for (i, f) in records.iter().enumerate() {
-        cover_range_if_held(records, held, i, *f, covered);
+        if is_marked(held, i) && is_range(*f) {
+            cover_range(records, *f, covered);
+        }
     }
 }
 
@@ -46,8 +35,9 @@ fn cover_wholes(records: &[FormulaRecord], everything: bool, covered: &mut [bool
     ensures { covered.new ≡ joined_from everything records.now 0 covered.old }
 {
     for (i, f) in records.iter().enumerate() {
-        let follows = follows_from_parts(everything, *f, covered);
-        set_mark_if(follows, covered, i);
+        if follows_from_parts(everything, *f, covered) {
+            set_mark(covered, i);
+        }
     }
 }
 

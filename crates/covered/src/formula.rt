@@ -1,21 +1,19 @@
-// Tests on single formulas of a card. Kinds are 1 true, 4 and, 5 or, 7 G, 8 F.
+// Tests on single formulas of a card.
 ghost use Rattle.std.specs.Prelude.{◌≡◌};
-ghost use Rattle.covered.specs.Marks.{is_conjunction, is_range, includes, stronger, covers_range, parts_cover, follows};
+ghost use Rattle.covered.specs.Marks.{is_range, includes, covers_range, parts_cover, follows};
 
 use crate::marks::is_marked;
+use formulas::Formula;
 use records::FormulaRecord;
-
-pub(crate) fn is_conjunction(f: FormulaRecord) -> bool
-    ensures { result ≡ is_conjunction f }
-{
-    f.kind == 4
-}
 
 /// Is it a G or an F?
 pub(crate) fn is_range(f: FormulaRecord) -> bool
     ensures { result ≡ is_range f }
 {
-    f.kind == 7 || f.kind == 8
+    matches!(
+        Formula::try_from(f),
+        Ok(Formula::Always(..) | Formula::Eventually(..))
+    )
 }
 
 /// Does the range of one formula include that of the other?
@@ -25,32 +23,28 @@ fn range_includes(outer: FormulaRecord, inner: FormulaRecord) -> bool
     outer.n <= inner.n && inner.m <= outer.m
 }
 
-/// G is stronger the wider its range, F the narrower.
-fn is_stronger(held: FormulaRecord, other: FormulaRecord) -> bool
-    ensures { result ≡ stronger held other }
-{
-    match held.kind {
-        7 => range_includes(held, other),
-        8 => range_includes(other, held),
-        _ => false,
-    }
-}
-
-/// Does a held G or F cover the other formula: one body, and at least as strong?
+/// Does a held G or F cover the other formula: the same operator and body, and a G over a wider range or an F over a narrower one?
 pub(crate) fn covers_range(held: FormulaRecord, other: FormulaRecord) -> bool
     ensures { result ≡ covers_range held other }
 {
-    held.kind == other.kind && held.a == other.a && is_stronger(held, other)
+    if held.a != other.a {
+        return false;
+    }
+    match (Formula::try_from(held), Formula::try_from(other)) {
+        (Ok(Formula::Always(..)), Ok(Formula::Always(..))) => range_includes(held, other),
+        (Ok(Formula::Eventually(..)), Ok(Formula::Eventually(..))) => range_includes(other, held),
+        _ => false,
+    }
 }
 
 /// Is a formula covered through its parts? True always is; a conjunction if both parts are, a disjunction if one is.
 fn parts_cover(f: FormulaRecord, covered: &[bool; 1024]) -> bool
     ensures { result ≡ parts_cover f covered.now }
 {
-    match f.kind {
-        1 => true,
-        4 => is_marked(covered, f.a as usize) && is_marked(covered, f.b as usize),
-        5 => is_marked(covered, f.a as usize) || is_marked(covered, f.b as usize),
+    match Formula::try_from(f) {
+        Ok(Formula::True) => true,
+        Ok(Formula::And(a, b)) => is_marked(covered, a as usize) && is_marked(covered, b as usize),
+        Ok(Formula::Or(a, b)) => is_marked(covered, a as usize) || is_marked(covered, b as usize),
         _ => false,
     }
 }

@@ -3,17 +3,19 @@ ghost use Rattle.std.specs.Prelude.{◌≡◌};
 ghost use Rattle.covered.specs.Marks.{spread, held_marks};
 ghost use Rattle.covered.specs.Meaning.{MarksHeld};
 
-use crate::formula::is_conjunction;
 use crate::marks::{is_marked, set_mark};
+use formulas::Formula;
 use records::FormulaRecord;
 
 /// Marks both parts of formula i, the record f, if it is marked and a conjunction.
 fn hold_parts(i: usize, f: FormulaRecord, marks: &mut [bool; 1024])
     ensures { marks.new ≡ spread i f marks.old }
 {
-    if is_marked(marks, i) && is_conjunction(f) {
-        set_mark(marks, f.a as usize);
-        set_mark(marks, f.b as usize);
+    if is_marked(marks, i)
+        && let Ok(Formula::And(a, b)) = Formula::try_from(f)
+    {
+        set_mark(marks, a as usize);
+        set_mark(marks, b as usize);
     }
 }
 
@@ -22,7 +24,7 @@ pub fn hold(records: &[FormulaRecord], marks: &mut [bool; 1024])
     ensures value { marks.new ≡ held_marks records.now marks.old }
     ensures law { MarksHeld records.now marks.old marks.new }
 {
-    for i in (0..records.len()).rev() {
-        hold_parts(i, records[i], marks);
+    for (i, record) in records.iter().enumerate().rev() {
+        hold_parts(i, *record, marks);
     }
 }

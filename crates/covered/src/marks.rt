@@ -1,12 +1,12 @@
 // Marks over the numbers of a card's formulas, at most 1,024.
 ghost use Rattle.std.specs.Prelude.{◌≡◌};
-ghost use Rattle.covered.specs.Marks.{marked, mark, mark_if};
+ghost use Rattle.covered.specs.Marks.{marked, mark};
 
 /// Is entry i marked? An entry past the end is not.
 pub fn is_marked(marks: &[bool; 1024], i: usize) -> bool
     ensures { result ≡ marked marks.now i }
 {
-    i < 1024 && marks[i]
+    marks.get(i) == Some(&true)
 }
 
 /// Marks entry i; past the end nothing changes.
@@ -15,14 +15,5 @@ pub fn set_mark(marks: &mut [bool; 1024], i: usize)
 {
     if i < 1024 {
         marks[i] = true;
-    }
-}
-
-/// Marks entry i if the test passed.
-pub(crate) fn set_mark_if(test: bool, marks: &mut [bool; 1024], i: usize)
-    ensures { marks.new ≡ mark_if test marks.old i }
-{
-    if test {
-        set_mark(marks, i);
     }
 }
