@@ -1,6 +1,6 @@
 pub mod Walk
 pub mod Model
-pub mod Entries
+pub mod Rows
 pub mod Puts
 pub mod ReadBack
 pub mod Whole

@@ -1,5 +1,5 @@
 -- The card that a source's records stand for, by what the source answers.
-use Rattle.std.proofs.Common.{◌≡◌, ℕ, length, Some, None}
+use Rattle.std.proofs.Common.{◌≡◌, ℕ, length, Some, None, Option, unwrap_or, sym, ◌∙◌}
 use lib.ListN.{length-map}
 use Rattle.std.specs.List.{slice_get}
 use Rattle.tableau.specs.Moves.{no_move}
@@ -33,14 +33,27 @@ module _ (c : RawCard) where
     pub label_none : None ≡ slice_get c.labels i → label_at (model c) i ≡ 0
     label_none e = entry_none c.labels i 0 e
 
+    -- the entry that a source answers, or what stands past the end
+    pub label_or : (o : Option ℕ) → o ≡ slice_get c.labels i → unwrap_or o 0 ≡ label_at (model c) i
+    label_or (Some l) e = sym (label_some l e)
+    label_or None e = sym (label_none e)
+
     pub node_some : (r : NodeRecord) → Some r ≡ slice_get c.nodes i → node_at (model c) i ≡ node_of r
     node_some r e = get_d_some node_of c.nodes i r no_node e
 
     pub node_none : None ≡ slice_get c.nodes i → node_at (model c) i ≡ no_node
     node_none e = get_or_none node_of c.nodes i no_node e
 
+    pub node_or : (o : Option NodeRecord) (d : NodeRecord) → o ≡ slice_get c.nodes i → node_of d ≡ no_node → node_of (unwrap_or o d) ≡ node_at (model c) i
+    node_or (Some r) d e z = sym (node_some r e)
+    node_or None d e z = z ∙ sym (node_none e)
+
     pub move_some : (r : MoveRecord) → Some r ≡ slice_get c.moves i → move_at (model c) i ≡ move_of r
     move_some r e = get_d_some move_of c.moves i r no_move e
 
     pub move_none : None ≡ slice_get c.moves i → move_at (model c) i ≡ no_move
     move_none e = get_or_none move_of c.moves i no_move e
+
+    pub move_or : (o : Option MoveRecord) (d : MoveRecord) → o ≡ slice_get c.moves i → move_of d ≡ no_move → move_of (unwrap_or o d) ≡ move_at (model c) i
+    move_or (Some r) d e z = sym (move_some r e)
+    move_or None d e z = z ∙ sym (move_none e)

@@ -1,5 +1,5 @@
 -- What an answer of a source says of the list that it comes from. An answer is the entry at a place, or none past the list.
-use Rattle.std.proofs.Common.{◌≡◌, ℕ, zero, suc, ◌+◌, ◌<◌, ◌≤◌, List, [], ◌∷◌, map, length, get_or, drop, Some, None, refl, ap, suc-le-suc, zero-le, add-one, arith}
+use Rattle.std.proofs.Common.{◌≡◌, ℕ, zero, suc, ◌+◌, ◌<◌, ◌≤◌, List, [], ◌∷◌, map, length, get_or, drop, Some, None, Option, MatchOption, refl, ap, suc-le-suc, zero-le, add-one, arith}
 use Rattle.std.specs.List.{slice_get}
 
 -- what is left of a list from an entry on
@@ -26,6 +26,12 @@ drop_none [] zero e = refl
 drop_none [] (suc i) e = refl
 drop_none (y ∷ ys) zero e = let z : ◌≡◌ {A = ℕ} 0 1 = cc in absurd (omega arith)
 drop_none (y ∷ ys) (suc i) e = drop_none ys i e
+
+-- the entry at a place of the list is the first of what is left from there on
+pub first_left : {X : Type 0} (xs : List X) (i : ℕ) (r : Option X) → i < length xs → r ≡ slice_get xs i
+    → MatchOption r ((drop i xs ≡ []) × (drop (i + 1) xs ≡ [])) (λ x. drop i xs ≡ x ∷ drop (i + 1) xs)
+first_left xs i None h e = absurd (omega (arith, length_none xs i e))
+first_left xs i (Some x) h e = drop_some xs i x e
 
 -- the entry of a list that a function was applied to, read at any default
 pub get_d_some : {X Y : Type 0} (f : X → Y) (xs : List X) (i : ℕ) (x : X) (d : Y) → Some x ≡ slice_get xs i → get_or (map f xs) i d ≡ f x

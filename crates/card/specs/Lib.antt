@@ -2,3 +2,4 @@ pub mod Limits
 pub mod Layout
 pub mod Trailer
 pub mod Written
+pub mod Named

@@ -9,8 +9,8 @@ use Rattle.records.specs.Raw.{RawCard, model}
 use Rattle.records.specs.Table.{formula_of}
 use Rattle.rested.specs.declared.key.FormulaKey.{FormulaKey}
 use Rattle.rested.specs.Listing.{Ready}
-use Rattle.steps.specs.declared.entries.Kind.{Kind}
-use Rattle.steps.specs.Named.{kind_named}
+use Rattle.card.specs.declared.entries.Kind.{Kind}
+use Rattle.card.specs.Named.{kind_named}
 use Rattle.marking.specs.declared.listing.Listing.{Listing}
 use Rattle.marking.specs.Listings.{ListedAs}
 use Rattle.marking.specs.Nodes.{Known}

@@ -20,8 +20,8 @@ use Rattle.covered.proofs.Holding.{same_test}
 use Rattle.rested.specs.declared.key.FormulaKey.{FormulaKey}
 use Rattle.rested.specs.Listing.{Ready}
 use Rattle.rested.specs.Rests.{AllRested}
-use Rattle.steps.specs.declared.entries.Kind.{Kind}
-use Rattle.steps.specs.Named.{kind_named}
+use Rattle.card.specs.declared.entries.Kind.{Kind}
+use Rattle.card.specs.Named.{kind_named}
 use Rattle.steps.specs.Sets.{Labelled, RestsOf, TakesRests}
 use Rattle.steps.specs.Steps.{TellsStep}
 use Rattle.steps.proofs.Labels.{label_below}

@@ -16,8 +16,8 @@ use Rattle.records.specs.Table.{Listed, formula_of}
 use Rattle.covered.specs.Meaning.{Members}
 use Rattle.rested.specs.declared.key.FormulaKey.{FormulaKey}
 use Rattle.rested.specs.Listing.{Ready}
-use Rattle.steps.specs.declared.entries.Kind.{Kind}
-use Rattle.steps.specs.Named.{kind_named}
+use Rattle.card.specs.declared.entries.Kind.{Kind}
+use Rattle.card.specs.Named.{kind_named}
 use Rattle.steps.specs.Sets.{Labelled}
 use Rattle.judged.specs.Judged.{Judges}
 use Rattle.coverings.specs.Coverings.{Ready as Splitting}

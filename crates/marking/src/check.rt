@@ -19,7 +19,7 @@ use index::Slot;
 use records::FormulaRecord;
 use rested::key::FormulaKey;
 use rules::specification::Specification;
-use steps::entries::kind_of;
+use card::entries::kind_of;
 use steps::kept::root_kept;
 
 /// The index needs 2,048 slots.

@@ -5,11 +5,11 @@ ghost use Rattle.faults.specs.declared.card.CardList.TheVariants as list;
 ghost use Rattle.faults.specs.declared.card.CardFault.TheVariants.{Refused};
 ghost use Rattle.tableau.specs.Card.{opened, closed};
 ghost use Rattle.tableau.specs.Conditions.{keeps_target};
-ghost use Rattle.steps.specs.Named.{kind_named, target_named};
+ghost use Rattle.card.specs.Named.{kind_named, target_named};
 ghost use Rattle.marking.specs.Tests.{label_number_kept};
 
 use faults::card::{CardFault, CardList, CardReason};
-use steps::entries::{Kind, Target};
+use card::entries::{Kind, Target};
 
 /// An open label has no false, which is formula 0.
 pub(crate) fn label_kept(kind: Kind, formula: u16) -> bool

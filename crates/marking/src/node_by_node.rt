@@ -11,7 +11,7 @@ use faults::card::CardFault;
 use index::Slot;
 use records::{FormulaRecord, NodeRecord};
 use rested::key::FormulaKey;
-use steps::entries::{Kind, label_of, move_of, node_of, target_of};
+use card::entries::{Kind, label_of, move_of, node_of, target_of};
 use steps::kept::{rests_by, step_kept};
 use steps::sets::{obligation_marks, rest_marks};
 

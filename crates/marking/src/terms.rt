@@ -1,5 +1,5 @@
 // What the nodes of a card are judged by.
-use steps::entries::Kind;
+use card::entries::Kind;
 
 /// How many variables of each kind the specification has, the card's kind, and the number of the safety formula in the card's list.
 #[derive(Clone, Copy)]

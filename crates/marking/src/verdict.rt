@@ -7,7 +7,7 @@ ghost use Rattle.marking.specs.Verdicts.{DepthKnown, marked_as, verdict_number};
 
 use card::source::CardSource;
 use depth::depth;
-use steps::entries::{Kind, kind_of};
+use card::entries::{Kind, kind_of};
 
 /// Whether the conditions can be kept.
 #[derive(Clone, Copy, PartialEq, Eq, Debug)]

@@ -1,3 +1,2 @@
-pub mod Named
 pub mod Sets
 pub mod Steps

@@ -6,10 +6,10 @@ ghost use Rattle.tableau.specs.Conditions.{reading_of};
 ghost use Rattle.records.specs.Raw.{model, move_of};
 ghost use Rattle.rested.specs.Listing.{Ready};
 ghost use Rattle.rested.specs.Rests.{AllRested};
-ghost use Rattle.steps.specs.Named.{kind_named, target_named};
+ghost use Rattle.card.specs.Named.{kind_named, target_named};
 ghost use Rattle.steps.specs.Steps.{TellsRoot, TellsStep};
 
-use crate::entries::{Kind, Target, kind_of, node_of};
+use card::entries::{Kind, Target, kind_of, node_of};
 use crate::sets::{all_covered, label_marks, only};
 use card::source::CardSource;
 use covered::cover::covered_by;

@@ -3,7 +3,7 @@ ghost use Rattle.std.specs.Prelude.{◌≡◌, false, replicate};
 ghost use Rattle.covered.specs.Marks.{mark};
 ghost use Rattle.steps.specs.Sets.{AddsLabel, MarksLabel, MarksObligations, TakesRests, TellsCovered};
 
-use crate::entries::label_of;
+use card::entries::label_of;
 use card::source::CardSource;
 use covered::marks::{is_marked, set_mark};
 use records::NodeRecord;

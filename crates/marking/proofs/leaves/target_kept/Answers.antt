@@ -1,7 +1,7 @@
 use Rattle.std.proofs.Common.{sym, ap, ◌∙◌}
 use Rattle.tableau.specs.Conditions.{keeps_target}
-use Rattle.steps.specs.declared.entries.Kind.{Kind}
-use Rattle.steps.specs.Named.{kind_named, target_named}
+use Rattle.card.specs.declared.entries.Kind.{Kind}
+use Rattle.card.specs.Named.{kind_named, target_named}
 use Rattle.marking.proofs.leaves.target_kept.Goals as goal
 
 pub returns-in-Open : goal.returns-in-Open

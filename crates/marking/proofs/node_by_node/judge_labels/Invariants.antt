@@ -5,7 +5,7 @@ use Rattle.tableau.specs.Card.{kind_of}
 use Rattle.tableau.specs.Conditions.{kept, fault, label_kept}
 use Rattle.tableau.specs.Judge.{judged_by}
 use Rattle.records.specs.Raw.{model}
-use Rattle.steps.specs.Named.{kind_named}
+use Rattle.card.specs.Named.{kind_named}
 use Rattle.steps.specs.Sets.{Labelled}
 use Rattle.judged.proofs.Walks.{walked}
 use Rattle.marking.proofs.node_by_node.judge_labels.Given as goal

@@ -1,5 +1,5 @@
 use Rattle.std.proofs.Common.{Some, sym, ◌∙◌}
-use Rattle.steps.specs.Named.{target_named}
+use Rattle.card.specs.Named.{target_named}
 use Rattle.marking.proofs.Places.{refused, rests_judged, rests_refused, step_refused, step_passed}
 use Rattle.marking.proofs.node_by_node.judge_move.Goals as goal
 

@@ -4,7 +4,7 @@ use Rattle.records.specs.Raw.{model}
 use Rattle.judged.proofs.Walks.{walk_start, walk_pass, walk_fail, walk_end}
 use Rattle.marking.proofs.Places.{refused, target_judged}
 use Rattle.marking.proofs.node_by_node.judge_targets.Goals as goal
-use Rattle.steps.specs.Named.{target_named}
+use Rattle.card.specs.Named.{target_named}
 
 pub loop-k-init : goal.loop-k-init
 loop-k-init g c spec nodes kinds =

@@ -2,8 +2,8 @@ use Rattle.std.proofs.Common.{sym, ap, ◌∙◌}
 use Rattle.tableau.specs.Card.{opened}
 use Rattle.tableau.specs.Conditions.{keeps_step}
 use Rattle.records.specs.Raw.{model}
-use Rattle.steps.specs.Named.{target_named}
-use Rattle.steps.specs.declared.entries.Target.{Target}
+use Rattle.card.specs.Named.{target_named}
+use Rattle.card.specs.declared.entries.Target.{Target}
 use Rattle.steps.proofs.kept.open_step_kept.Goals as goal
 
 pub returns-in-Node : goal.returns-in-Node

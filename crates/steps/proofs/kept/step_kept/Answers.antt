@@ -1,8 +1,8 @@
 use Rattle.std.proofs.Common.{sym, ap, ◌∙◌}
 use Rattle.tableau.specs.Conditions.{keeps_step}
 use Rattle.records.specs.Raw.{model}
-use Rattle.steps.specs.Named.{kind_named, target_named}
-use Rattle.steps.specs.declared.entries.Kind.{Kind}
+use Rattle.card.specs.Named.{kind_named, target_named}
+use Rattle.card.specs.declared.entries.Kind.{Kind}
 use Rattle.steps.proofs.kept.step_kept.Goals as goal
 
 pub returns-in-Open : goal.returns-in-Open

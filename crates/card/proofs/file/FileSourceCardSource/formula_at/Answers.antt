@@ -1,6 +1,6 @@
 use Rattle.std.proofs.Common.{Some, sym, ap, ◌∙◌, arith}
 use Rattle.card.specs.Layout.{formula_at}
-use Rattle.card.proofs.Entries.{entries_in, entries_past}
+use Rattle.card.proofs.Rows.{entries_in, entries_past}
 use Rattle.card.proofs.file.FileSourceCardSource.formula_at.Goals as goal
 
 pub returns-then-i-self : goal.returns-then-i-self

@@ -1,6 +1,6 @@
 use Rattle.std.proofs.Common.{sym}
 use Rattle.card.specs.Layout.{formula_at}
-use Rattle.card.proofs.Entries.{entries_length}
+use Rattle.card.proofs.Rows.{entries_length}
 use Rattle.card.proofs.file.FileSourceCardSource.formula_count.Goals as goal
 
 pub returns : goal.returns

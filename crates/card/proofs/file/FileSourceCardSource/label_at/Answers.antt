@@ -1,7 +1,7 @@
 use Rattle.std.proofs.Common.{Some, sym, ap, ◌∙◌, arith}
 use Rattle.card.specs.Layout.{word_at}
 use Rattle.card.specs.Trailer.{labels_from}
-use Rattle.card.proofs.Entries.{entries_in, entries_past}
+use Rattle.card.proofs.Rows.{entries_in, entries_past}
 use Rattle.card.proofs.file.FileSourceCardSource.label_at.Goals as goal
 
 pub returns-then-i-self : goal.returns-then-i-self

@@ -1,7 +1,7 @@
 use Rattle.std.proofs.Common.{sym}
 use Rattle.card.specs.Layout.{move_at}
 use Rattle.card.specs.Trailer.{moves_from}
-use Rattle.card.proofs.Entries.{entries_length}
+use Rattle.card.proofs.Rows.{entries_length}
 use Rattle.card.proofs.file.FileSourceCardSource.move_count.Goals as goal
 
 pub returns : goal.returns

@@ -2,10 +2,10 @@
 use Rattle.std.specs.Prelude.{ℕ}
 use Rattle.tableau.specs.Moves.{Target as CardTarget, end, node}
 use Rattle.tableau.specs.Card.{CardKind, opened, closed}
-use Rattle.steps.specs.declared.entries.Kind.{Kind}
-use Rattle.steps.specs.declared.entries.Kind.TheVariants.{Open, Closed}
-use Rattle.steps.specs.declared.entries.Target.{Target}
-use Rattle.steps.specs.declared.entries.Target.TheVariants.{End, Node}
+use Rattle.card.specs.declared.entries.Kind.{Kind}
+use Rattle.card.specs.declared.entries.Kind.TheVariants.{Open, Closed}
+use Rattle.card.specs.declared.entries.Target.{Target}
+use Rattle.card.specs.declared.entries.Target.TheVariants.{End, Node}
 
 abbrev pub kind_named : Kind → CardKind
 kind_named Open = opened

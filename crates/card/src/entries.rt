@@ -3,10 +3,27 @@
 ghost use Rattle.std.specs.Prelude.{◌≡◌};
 ghost use Rattle.tableau.specs.Card.{kind_of, label_at, node_at, move_at};
 ghost use Rattle.records.specs.Raw.{model, node_of, move_of, target_of};
-ghost use Rattle.steps.specs.Named.{kind_named, target_named, kind_number};
+ghost use Rattle.card.specs.Named.{kind_named, target_named, kind_number};
 
-use card::source::CardSource;
+use crate::source::CardSource;
 use records::{MoveRecord, NodeRecord};
+
+/// A node with nothing.
+const NO_NODE: NodeRecord = NodeRecord {
+    first_label: 0,
+    label_count: 0,
+    first_move: 0,
+    move_count: 0,
+};
+
+/// A move that fixes nothing and leads to the end.
+const NO_MOVE: MoveRecord = MoveRecord {
+    env_mask: 0,
+    env_values: 0,
+    sys_mask: 0,
+    sys_values: 0,
+    target: 65_535,
+};
 
 /// What a card claims: open, that the conditions can be kept; closed, that they cannot.
 #[derive(Clone, Copy, PartialEq, Eq, Debug)]
@@ -35,10 +52,9 @@ impl Kind {
 pub fn kind_of<S: CardSource>(source: &S) -> Kind
     ensures { kind_named result ≡ kind_of (model (S.card source.now)) }
 {
-    if source.kind() == 1 {
-        Kind::Open
-    } else {
-        Kind::Closed
+    match source.kind() {
+        1 => Kind::Open,
+        _ => Kind::Closed,
     }
 }
 
@@ -46,10 +62,9 @@ pub fn kind_of<S: CardSource>(source: &S) -> Kind
 pub fn target_of(m: MoveRecord) -> Target
     ensures { target_named result ≡ target_of m.target }
 {
-    if m.target == 65_535 {
-        Target::End
-    } else {
-        Target::Node(m.target)
+    match m.target {
+        65_535 => Target::End,
+        node => Target::Node(node),
     }
 }
 
@@ -57,39 +72,19 @@ pub fn target_of(m: MoveRecord) -> Target
 pub fn label_of<S: CardSource>(source: &S, i: usize) -> u16
     ensures { result ≡ label_at (model (S.card source.now)) i }
 {
-    match source.label_at(i) {
-        Some(label) => label,
-        None => 0,
-    }
+    source.label_at(i).unwrap_or(0)
 }
 
 /// A node by its number.
 pub fn node_of<S: CardSource>(source: &S, i: usize) -> NodeRecord
     ensures { node_of result ≡ node_at (model (S.card source.now)) i }
 {
-    match source.node_at(i) {
-        Some(node) => node,
-        None => NodeRecord {
-            first_label: 0,
-            label_count: 0,
-            first_move: 0,
-            move_count: 0,
-        },
-    }
+    source.node_at(i).unwrap_or(NO_NODE)
 }
 
 /// A move by its number.
 pub fn move_of<S: CardSource>(source: &S, i: usize) -> MoveRecord
     ensures { move_of result ≡ move_at (model (S.card source.now)) i }
 {
-    match source.move_at(i) {
-        Some(m) => m,
-        None => MoveRecord {
-            env_mask: 0,
-            env_values: 0,
-            sys_mask: 0,
-            sys_values: 0,
-            target: 65_535,
-        },
-    }
+    source.move_at(i).unwrap_or(NO_MOVE)
 }
