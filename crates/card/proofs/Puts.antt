@@ -1,9 +1,8 @@
 -- Bytes put over others, piece by piece.
-use Rattle.std.proofs.Common.{◌≡◌, ℕ, ◌+◌, ◌≤◌, List, [], ◌++◌, length, take, drop, Some, sym, ap, ◌∙◌, arith}
-use Rattle.std.specs.List.{flat_map, slice_get}
-use Rattle.std.proofs.lemmas.List.{append_assoc, length-append, length-take-le, take-append-drop, take_at, drop_at, drop-drop, drop_all, length-drop}
+use Rattle.std.proofs.Common.{◌≡◌, ℕ, ◌+◌, ◌*◌, ◌≤◌, List, [], ◌∷◌, ◌++◌, length, take, drop, sym, ap, ◌∙◌, arith, mul-suc}
+use Rattle.std.specs.List.{flat_map}
+use Rattle.std.proofs.lemmas.List.{append_assoc, length-append, length-take-le, take-append-drop, take_at, drop_at, drop-drop, length-drop}
 use Rattle.card.specs.Written.{put_at}
-use Rattle.card.proofs.Walk.{drop_some}
 
 -- nothing put changes nothing
 pub put_none : (old : List ℕ) (p : ℕ) → put_at old p [] ≡ old
@@ -42,15 +41,18 @@ module _ (old : List ℕ) (p q : ℕ) (xs ys : List ℕ) (room : p ≤ length ol
       ∙ append_assoc (take p old) xs (ys ++ end)
       ∙ ap (λ k. take p old ++ k) (sym (append_assoc xs ys end))
 
--- a list written entry by entry: what is no_move to be put over the output gives the whole
-module _ {X : Type 0} (bytes : X → List ℕ) (xs : List X) (whole old : List ℕ) (p i : ℕ)
-    (left : put_at old p (flat_map bytes (drop i xs)) ≡ whole) where
-  pub put_entry : (x : X) (bs new : List ℕ) (q : ℕ) → Some x ≡ slice_get xs i → bs ≡ bytes x → new ≡ put_at old p bs → p ≤ length old
-      → p + length (bytes x) ≡ q → put_at new q (flat_map bytes (drop (i + 1) xs)) ≡ whole
-  put_entry x bs new q at e put room next =
-      let tail = flat_map bytes (drop (i + 1) xs) in
-      ap (λ o. put_at o q tail) (put ∙ ap (put_at old p) e) ∙ put_more old p q (bytes x) tail room next
-      ∙ ap (λ ys. put_at old p (flat_map bytes ys)) (sym (drop_some xs i x at)) ∙ left
-
-  pub put_end : length xs ≤ i → old ≡ whole
-  put_end h = sym (put_none old p) ∙ sym (ap (λ ys. put_at old p (flat_map bytes ys)) (drop_all i xs h)) ∙ left
+-- a list written entry by entry: what is left, put over the output, gives the whole
+pub put_next : {X : Type 0} (bytes : X → List ℕ) (size : ℕ) (sized : (x : X) → length (bytes x) ≡ size)
+    (left rest : List X) (x : X) (old new whole : List ℕ) (p q : ℕ)
+    → left ≡ x ∷ rest → p + size * length left ≤ length old → put_at old p (flat_map bytes left) ≡ whole
+    → new ≡ put_at old p (bytes x) → q ≡ p + size
+    → (q + size * length rest ≤ length new) × (put_at new q (flat_map bytes rest) ≡ whole)
+put_next bytes size sized left rest x old new whole p q e room all put next =
+    let count : size * length left ≡ size * length rest + size =
+    ap (λ ys. size * length ys) e ∙ omega (arith, mul-suc size (length rest)) in
+    let long = ap length put ∙ length_put old p (bytes x) (omega (arith, sized x)) in (
+      omega (arith, long),
+      ap (λ o. put_at o q (flat_map bytes rest)) put
+          ∙ put_more old p q (bytes x) (flat_map bytes rest) (omega arith) (omega (arith, sized x))
+          ∙ ap (λ ys. put_at old p (flat_map bytes ys)) (sym e) ∙ all,
+    )

@@ -1,5 +1,5 @@
 -- The file of a whole card: its length, its trailer, what is read from it, and how it is written list by list.
-use Rattle.std.proofs.Common.{◌≡◌, ℕ, ◌+◌, ◌-◌, ◌*◌, ◌<◌, ◌≤◌, eqb, leb, List, [], ◌++◌, length, get_or, take, drop, None, Ok, Err, sym, refl, ap, ◌∙◌, arith, lit<}
+use Rattle.std.proofs.Common.{◌≡◌, ℕ, ◌+◌, ◌-◌, ◌*◌, ◌<◌, ◌≤◌, eqb, leb, List, [], ◌++◌, length, get_or, take, drop, Some, None, Option, Ok, Err, sym, refl, ap, ◌∙◌, arith, lit<}
 use Rattle.std.specs.List.{flat_map}
 use Rattle.std.proofs.lemmas.List.{append_assoc, length-append, take_at}
 use Rattle.std.proofs.lemmas.Bool.{eq-eqb, le-leb, and_from, cond-true}
@@ -8,11 +8,16 @@ use Rattle.faults.specs.declared.card.CardFault.TheVariants.{Short}
 use Rattle.records.specs.Raw.{RawCard}
 use Rattle.card.specs.Limits.{formulas_right, labels_right, nodes_right, moves_right, kind_right, wrong_count}
 use Rattle.card.specs.Layout.{word_at, formula_at, node_at, move_at, entries, word_bytes, formula_bytes, node_bytes, move_bytes}
-use Rattle.card.specs.Trailer.{labels_from, nodes_from, moves_from, field, wrong_field, card_in, read_card, read_by, read_file}
+use Rattle.card.specs.Trailer.{labels_from, nodes_from, moves_from, field, wrong_field, card_in, read_card, read_by, read_file, refused_field}
 use Rattle.card.specs.Written.{trailer_of, card_bytes, byte_count, written_by, written, put_at}
 use Rattle.card.proofs.Puts.{put_more, length_put}
 use Rattle.card.proofs.ReadBack.{word_back, formula_back, node_back, move_back, word_at_lem, joined_length, entries_back}
 use Rattle.card.proofs.ReadBack.{Right, count_right, bounded, none_unless}
+
+-- where nothing was refused, no field is wrong
+pub not_refused : (o : Option ℕ) → Ok tt ≡ refused_field o → o ≡ None
+not_refused None e = refl
+not_refused (Some f) e = let z : ◌≡◌ {A = ℕ} 0 1 = cc in absurd (omega arith)
 
 module _ (c : RawCard) where
   abbrev F : List ℕ

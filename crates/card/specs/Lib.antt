@@ -3,3 +3,4 @@ pub mod Layout
 pub mod Trailer
 pub mod Written
 pub mod Named
+pub mod Counts

@@ -1,6 +1,6 @@
 -- A card file: formulas, labels, nodes and moves without a gap, and a trailer of ten fields of two bytes. The fields are the start and the
 -- count of each of the four lists, the kind, and the trailer's own length.
-use Rattle.std.specs.Prelude.{ℕ, ◌+◌, ◌-◌, ◌*◌, ◌&&◌, List, length, Some, None, Ok, Err, Option, Result, ◌==◌, nat_le}
+use Rattle.std.specs.Prelude.{ℕ, Bool, ◌+◌, ◌-◌, ◌*◌, ◌&&◌, List, length, Some, None, Ok, Err, Option, Result, ◌==◌, nat_le}
 use Rattle.faults.specs.declared.card.CardFault.{CardFault}
 use Rattle.faults.specs.declared.card.CardFault.TheVariants.{Refused}
 use Rattle.faults.specs.declared.card.CardReason.TheVariants.{Count}
@@ -56,6 +56,15 @@ read_card bs = card_in bs (field bs 8) (field bs 1) (field bs 3) (field bs 5) (f
 -- the refusal for a field of the trailer
 abbrev pub trailer_fault : ℕ → CardFault
 trailer_fault f = Refused Count «list».Trailer f
+
+-- passed where no field is wrong, and otherwise the refusal for the first wrong one
+abbrev pub refused_field : Option ℕ → Result (Unit {0}) CardFault
+refused_field None = Ok tt
+refused_field (Some f) = Err (trailer_fault f)
+
+-- passed where the test of a field is, and otherwise the refusal for it
+abbrev pub required : Bool → ℕ → Result (Unit {0}) CardFault
+required right f = refused_field (unless right f None)
 
 -- what opening a file gives: the card, or the refusal for its first wrong field
 abbrev pub read_by : RawCard → Option ℕ → Result RawCard CardFault

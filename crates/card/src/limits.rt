@@ -1,7 +1,7 @@
-// The limits of a card's counts and kind.
+//! The limits of a card's counts and kind.
 ghost use Rattle.std.specs.Prelude.{◌≡◌};
 ghost use Rattle.card.specs.Limits.{formulas_right, labels_right, nodes_right, moves_right, kind_right, wrong_count};
-ghost use Rattle.card.specs.Trailer.{trailer_fault};
+ghost use Rattle.card.specs.Trailer.{trailer_fault, refused_field, required};
 
 use crate::source::CardSource;
 use faults::card::{CardFault, CardList, CardReason};
@@ -9,7 +9,7 @@ use faults::card::{CardFault, CardList, CardReason};
 pub(crate) fn formulas_right(count: usize) -> bool
     ensures { result ≡ formulas_right count }
 {
-    2 <= count && count <= 1_024
+    (2..=1_024).contains(&count)
 }
 
 pub(crate) fn labels_right(count: usize) -> bool
@@ -21,44 +21,44 @@ pub(crate) fn labels_right(count: usize) -> bool
 pub(crate) fn nodes_right(count: usize) -> bool
     ensures { result ≡ nodes_right count }
 {
-    1 <= count && count <= 1_024
+    (1..=1_024).contains(&count)
 }
 
 pub(crate) fn moves_right(count: usize) -> bool
     ensures { result ≡ moves_right count }
 {
-    1 <= count && count <= 2_048
+    (1..=2_048).contains(&count)
 }
 
 pub(crate) fn kind_right(kind: u16) -> bool
     ensures { result ≡ kind_right kind }
 {
-    1 <= kind && kind <= 2
+    (1..=2).contains(&kind)
 }
 
-// The first count that is outside its limits, or else the kind, by the number of its field in a file's trailer.
-pub fn wrong_count<S: CardSource>(source: &S) -> Option<usize>
-    ensures { result ≡ wrong_count (S.card source.now) }
+/// Refuses a card for the first count that is outside its limits, or else for the kind, by the number of its field in a file's trailer.
+pub fn check_counts<S: CardSource>(source: &S) -> Result<(), CardFault>
+    ensures { result ≡ refused_field (wrong_count (S.card source.now)) }
 {
-    if !formulas_right(source.formula_count()) {
-        return Some(1);
-    }
-    if !labels_right(source.label_count()) {
-        return Some(3);
-    }
-    if !nodes_right(source.node_count()) {
-        return Some(5);
-    }
-    if !moves_right(source.move_count()) {
-        return Some(7);
-    }
-    if !kind_right(source.kind()) {
-        return Some(8);
-    }
-    None
+    require(formulas_right(source.formula_count()), 1)?;
+    require(labels_right(source.label_count()), 3)?;
+    require(nodes_right(source.node_count()), 5)?;
+    require(moves_right(source.move_count()), 7)?;
+    require(kind_right(source.kind()), 8)
 }
 
-// The refusal for a field of the trailer.
+/// Refuses a field of the trailer unless its test passed.
+pub(crate) fn require(right: bool, field: usize) -> Result<(), CardFault>
+    ensures { result ≡ required right field }
+{
+    if right {
+        Ok(())
+    } else {
+        Err(trailer_fault(field))
+    }
+}
+
+/// The refusal for a field of the trailer.
 pub fn trailer_fault(field: usize) -> CardFault
     ensures { result ≡ trailer_fault field }
 {

@@ -1,5 +1,4 @@
-use Rattle.std.proofs.Common.{refl, ◌∙◌}
-
+use Rattle.std.proofs.Common.{◌∙◌}
 use Rattle.card.proofs.Model.{label_or}
 use Rattle.card.proofs.entries.label_of.Goals as goal
 
