@@ -4,3 +4,4 @@ pub mod Trailer
 pub mod Written
 pub mod Named
 pub mod Counts
+pub mod Variables

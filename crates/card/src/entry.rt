@@ -1,5 +1,5 @@
 //! The entries of a card's lists in one form for all four lists, and their iterator.
-ghost use Rattle.std.specs.Prelude.{◌≡◌, List, length, drop};
+ghost use Rattle.std.specs.Prelude.{◌≡◌, ◌<◌, ◌^◌, List, length, drop};
 ghost use Rattle.std.specs.List.{slice_get};
 ghost use Rattle.std.specs.Iterator.{YieldsFirst, item_count};
 ghost use Rattle.records.specs.Raw.{RawCard};
@@ -70,21 +70,25 @@ impl Entry for MoveRecord {
     }
 }
 
-/// The entries of one of a card's lists, in order.
+/// The entries of one of a card's lists, in order: those from `next` on are left.
 #[derive(Drop)]
-pub struct Entries<'a, S, E> {
+pub struct Entries<'a, S: CardSource, E: Entry> {
     source: &'a S,
     next: usize,
+    count: usize,
     of: PhantomData<E>,
+    ghost counted: { count ≡ length (E.listed (S.card source.now)) },
 }
 
 /// All entries of a list of a card, in order.
 pub fn all_entries<S: CardSource, E: Entry>(source: &S) -> Entries<'_, S, E>
-    ensures { drop result.next (E.listed (S.card result.source.now)) ≡ E.listed (S.card source.now) }
+    ensures all { drop result.next (E.listed (S.card result.source.now)) ≡ E.listed (S.card source.now) }
+    ensures few { length (E.listed (S.card source.now)) < 2 ^ 64 }
 {
     Entries {
         source,
         next: 0,
+        count: E::count(source),
         of: PhantomData,
     }
 }
@@ -97,7 +101,7 @@ impl<S: CardSource, E: Entry> Iterator for Entries<'_, S, E> {
     ghost remaining = { item_count (λ s. drop s.next (E.listed (S.card s.source.now))) };
 
     fn next(&mut self) -> Option<E> {
-        if self.next >= E::count(self.source) {
+        if self.next >= self.count {
             return None;
         }
         let entry = E::at(self.source, self.next);

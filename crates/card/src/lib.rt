@@ -11,4 +11,5 @@ pub mod sheet;
 pub mod source;
 #[cfg(test)]
 mod tests;
+pub mod variables;
 pub mod writer;

@@ -3,4 +3,4 @@ pub mod Entered
 pub mod Limits
 pub mod Orders
 pub mod Rows
-pub mod Tested
+pub mod Masks

@@ -4,11 +4,12 @@ use Rattle.temporal.specs.Game.{Spec}
 use Rattle.tableau.specs.Conditions.{Fault, fault_at}
 use Rattle.tableau.specs.Judge.{judged_by}
 use Rattle.records.specs.Raw.{RawCard, model}
+use Rattle.card.specs.Trailer.{refused_field}
 use Rattle.card.specs.Limits.{formulas_right, labels_right, nodes_right, moves_right, kind_right, unless, wrong_count}
 use Rattle.card.proofs.Model.{model_formulas, model_nodes, model_moves}
 use Rattle.faults.specs.declared.card.CardFault.{CardFault}
 use Rattle.judged.specs.Judged.{judgment, Judges}
-use Rattle.formed.specs.Conditions.{count_conditions, refused_field}
+use Rattle.formed.specs.Conditions.{count_conditions}
 
 -- kinds 1 and 2 are the kinds from 1 to 2
 pub kind_limits : (k : ℕ) → (eqb k 1 || eqb k 2) ≡ kind_right k
@@ -40,6 +41,6 @@ counts_judged spec c =
     ∙ first_wrong (formulas_right (length c.formulas)) (labels_right (length c.labels)) (nodes_right (length c.nodes))
     (moves_right (length c.moves)) (kind_right c.kind)
 
-pub refusal_judges : (spec : Spec) (c : RawCard) (wrong : Option ℕ) (r : Result (Unit {0}) CardFault)
-    → wrong ≡ wrong_count c → r ≡ refused_field wrong → Judges spec (model c) count_conditions r
-refusal_judges spec c wrong r w e = ap judgment (e ∙ ap refused_field w) ∙ sym (counts_judged spec c)
+pub refusal_judges : (spec : Spec) (c : RawCard) (r : Result (Unit {0}) CardFault)
+    → r ≡ refused_field (wrong_count c) → Judges spec (model c) count_conditions r
+refusal_judges spec c r e = ap judgment e ∙ sym (counts_judged spec c)

@@ -35,6 +35,11 @@ module _ (g : ℕ → Condition) (n : ℕ) (spec : Spec) (c : Card) where
     pub left_end : n ≤ k → Ok tt ≡ judged_by spec c (map g (span n 0))
     left_end l = sym (walk_end (kept spec c) fault g n 0 k l) ∙ left
 
+-- the conditions of a list, by another way to count its entries
+pub counted : (g : ℕ → Condition) (spec : Spec) (c : Card) (n m : ℕ) → n ≡ m → (r : Result (Unit {0}) Fault)
+    → r ≡ judged_by spec c (map g (span m 0)) → r ≡ judged_by spec c (map g (span n 0))
+counted g spec c n m e r h = h ∙ ap (λ k. judged_by spec c (map g (span k 0))) (sym e)
+
 -- ── groups of conditions, one after the other ──
 module _ (spec : Spec) (c : Card) (xs ys : List Condition) where
   pub then_next : (r : Result (Unit {0}) Fault) → Ok tt ≡ judged_by spec c xs → r ≡ judged_by spec c ys → r ≡ judged_by spec c (xs ++ ys)

@@ -1,5 +1,5 @@
 -- The conditions that look at a card's entries one by one, and their faults.
-use Rattle.std.specs.Prelude.{ℕ, List, [], ◌∷◌, ◌++◌, map, length, Some, None, Ok, Err, Option, Result}
+use Rattle.std.specs.Prelude.{ℕ, List, [], ◌∷◌, ◌++◌, map, length}
 use Rattle.faults.specs.declared.card.CardFault.{CardFault}
 use Rattle.faults.specs.declared.card.CardFault.TheVariants.{Refused}
 use Rattle.faults.specs.declared.card.CardReason.TheVariants.{Entry, Equal}
@@ -8,7 +8,6 @@ use Rattle.faults.specs.declared.card.CardList.TheVariants.{Formulas}
 use Rattle.tableau.specs.Lists.{span}
 use Rattle.tableau.specs.Card.{Card}
 use Rattle.tableau.specs.Conditions.{Condition, formula_count, label_count, node_count, move_count, kind_known}
-use Rattle.card.specs.Trailer.{trailer_fault}
 use Rattle.tableau.specs.Conditions.{formula_form, label_form, node_form, move_form}
 
 -- counts and kind
@@ -22,11 +21,6 @@ form_conditions c =
     ++ (map label_form (span (length c.labels) 0)
     ++ (map node_form (span (length c.nodes) 0)
     ++ map move_form (span (length c.moves) 0)))
-
--- the answer for the first wrong field of counts and kind, or for none
-abbrev pub refused_field : Option ℕ → Result (Unit {0}) CardFault
-refused_field None = Ok tt
-refused_field (Some field) = Err (trailer_fault field)
 
 -- an entry of bad form in a list
 abbrev pub unformed_at : CardList → ℕ → CardFault

@@ -1,3 +1,4 @@
 pub mod Conditions
 pub mod Copied
 pub mod Sizes
+pub mod Tested

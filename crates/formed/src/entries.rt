@@ -1,17 +1,21 @@
-// The form of every entry, list by list.
+//! The form of every entry, list by list.
 ghost use Rattle.std.specs.Prelude.{◌≡◌, map, length};
 ghost use Rattle.temporal.specs.Game.{Spec};
 ghost use Rattle.tableau.specs.Lists.{span};
-ghost use Rattle.tableau.specs.Conditions.{formula_form, label_form, node_form, move_form};
 ghost use Rattle.records.specs.Raw.{model};
+ghost use Rattle.card.specs.Variables.{HasVariables};
 ghost use Rattle.judged.specs.Judged.{Judges};
 ghost use Rattle.formed.specs.Conditions.{form_conditions, unformed_at};
+ghost use Rattle.formed.specs.Sizes.{HasSizes};
 
-use crate::form::{formula_formed, label_formed, move_formed, node_formed};
+use crate::form::{Formed, Sizes};
+use card::entry::all_entries;
 use card::source::CardSource;
+use card::variables::Variables;
 use faults::card::{CardFault, CardList, CardReason};
+use records::{FormulaRecord, MoveRecord, NodeRecord};
 
-// The refusal of an entry of bad form.
+/// The refusal of an entry of bad form.
 fn unformed(list: CardList, place: usize) -> CardFault
     ensures { result ≡ unformed_at list place }
 {
@@ -22,83 +26,30 @@ fn unformed(list: CardList, place: usize) -> CardFault
     }
 }
 
-fn formulas_formed<S: CardSource>(
-    source: &S,
-    environment: usize,
-    system: usize,
-) -> Result<(), CardFault>
-    ensures { (spec : Spec) → spec.environment ≡ environment → spec.system ≡ system → Judges spec (model (S.card source.now)) (map formula_form (span (length (model (S.card source.now)).formulas) 0)) result }
+/// Refuses the first entry of bad form of a list.
+fn list_formed<S: CardSource, E: Formed>(source: &S, sizes: Sizes) -> Result<(), CardFault>
+    ensures { (spec : Spec) → HasSizes spec (S.card source.now) sizes → Judges spec (model (S.card source.now)) (map E.condition (span (length (E.listed (S.card source.now))) 0)) result }
 {
-    for i in 0..source.formula_count() {
-        let Some(formula) = source.formula_at(i) else {
-            break;
-        };
-        if !formula_formed(i, formula, environment, system) {
-            return Err(unformed(CardList::Formulas, i));
+    for (i, entry) in all_entries::<S, E>(source).enumerate() {
+        if !entry.is_formed(i, sizes) {
+            return Err(unformed(E::list(), i));
         }
     }
     Ok(())
 }
 
-fn labels_formed<S: CardSource>(source: &S) -> Result<(), CardFault>
-    ensures { (spec : Spec) → Judges spec (model (S.card source.now)) (map label_form (span (length (model (S.card source.now)).labels) 0)) result }
+/// Refuses the first entry of bad form, for a specification with so many variables: formulas first, then labels, nodes and moves.
+pub fn entries_formed<S: CardSource>(source: &S, variables: Variables) -> Result<(), CardFault>
+    ensures { (spec : Spec) → HasVariables spec variables → Judges spec (model (S.card source.now)) (form_conditions (model (S.card source.now))) result }
 {
-    let formulas = source.formula_count();
-    for i in 0..source.label_count() {
-        let Some(label) = source.label_at(i) else {
-            break;
-        };
-        if !label_formed(formulas, label) {
-            return Err(unformed(CardList::Labels, i));
-        }
-    }
-    Ok(())
-}
-
-fn nodes_formed<S: CardSource>(source: &S) -> Result<(), CardFault>
-    ensures { (spec : Spec) → Judges spec (model (S.card source.now)) (map node_form (span (length (model (S.card source.now)).nodes) 0)) result }
-{
-    let labels = source.label_count();
-    let moves = source.move_count();
-    for i in 0..source.node_count() {
-        let Some(node) = source.node_at(i) else {
-            break;
-        };
-        if !node_formed(labels, moves, node) {
-            return Err(unformed(CardList::Nodes, i));
-        }
-    }
-    Ok(())
-}
-
-fn moves_formed<S: CardSource>(
-    source: &S,
-    environment: usize,
-    system: usize,
-) -> Result<(), CardFault>
-    ensures { (spec : Spec) → spec.environment ≡ environment → spec.system ≡ system → Judges spec (model (S.card source.now)) (map move_form (span (length (model (S.card source.now)).moves) 0)) result }
-{
-    for i in 0..source.move_count() {
-        let Some(step) = source.move_at(i) else {
-            break;
-        };
-        if !move_formed(step, environment, system) {
-            return Err(unformed(CardList::Moves, i));
-        }
-    }
-    Ok(())
-}
-
-// Refuses the first entry of bad form, for a specification with so many variables: formulas first, then labels, nodes and moves.
-pub fn entries_formed<S: CardSource>(
-    source: &S,
-    environment: usize,
-    system: usize,
-) -> Result<(), CardFault>
-    ensures { (spec : Spec) → spec.environment ≡ environment → spec.system ≡ system → Judges spec (model (S.card source.now)) (form_conditions (model (S.card source.now))) result }
-{
-    formulas_formed(source, environment, system)?;
-    labels_formed(source)?;
-    nodes_formed(source)?;
-    moves_formed(source, environment, system)
+    let sizes = Sizes {
+        variables,
+        formulas: source.formula_count(),
+        labels: source.label_count(),
+        moves: source.move_count(),
+    };
+    list_formed::<S, FormulaRecord>(source, sizes)?;
+    list_formed::<S, u16>(source, sizes)?;
+    list_formed::<S, NodeRecord>(source, sizes)?;
+    list_formed::<S, MoveRecord>(source, sizes)
 }

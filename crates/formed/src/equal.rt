@@ -1,4 +1,4 @@
-// Equal formulas: the index of a card's formulas, each entered once.
+//! Equal formulas: the index of a card's formulas, each entered once.
 ghost use Rattle.std.specs.Prelude.{◌≡◌, ◌≤◌, map, length, OnOk};
 ghost use Rattle.temporal.specs.Game.{Spec};
 ghost use Rattle.tableau.specs.Lists.{span};
@@ -15,7 +15,7 @@ use index::{Slot, clear, find, insert};
 use records::FormulaRecord;
 use rested::key::FormulaKey;
 
-// The refusal of a formula that equals an earlier one.
+/// The refusal of a formula that equals an earlier one.
 fn equal_formula(place: usize) -> CardFault
     ensures { result ≡ equal_at place }
 {
@@ -26,8 +26,8 @@ fn equal_formula(place: usize) -> CardFault
     }
 }
 
-// Clears the slots and enters the records in order, each under its number; a card has at most 1,024 formulas, and 2,048 slots have room
-// for them. The first record that equals an earlier one is refused.
+/// Clears the slots and enters the records in order, each under its number; a card has at most 1,024 formulas, and 2,048 slots have room
+/// for them. The first record that equals an earlier one is refused.
 pub fn index_formulas(
     records: &[FormulaRecord],
     slots: &mut [Slot<FormulaKey>],
@@ -36,15 +36,15 @@ pub fn index_formulas(
     ensures indexed { length records.now ≤ 1024 → 2048 ≤ length slots.old → OnOk result (Indexed key_code slots.new (map key_of records.now)) }
 {
     clear(slots);
-    let count = records.len().min(1024);
-    for i in 0..count {
-        let key = FormulaKey {
-            formula: records[i],
+    for (i, formula) in records.iter().enumerate() {
+        let Ok(number) = u16::try_from(i) else {
+            break;
         };
+        let key = FormulaKey { formula: *formula };
         if find(slots, &key).is_some() {
             return Err(equal_formula(i));
         }
-        insert(slots, key, i as u16);
+        insert(slots, key, number);
     }
     Ok(())
 }

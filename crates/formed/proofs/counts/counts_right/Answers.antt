@@ -2,6 +2,4 @@ use Rattle.formed.proofs.Limits.{refusal_judges}
 use Rattle.formed.proofs.counts.counts_right.Goals as goal
 
 pub returns : goal.returns
-returns g c = λ spec.
-    refusal_judges spec (g.S.CardSource.card c.args.source.now) c.wrong_count.result c.refusal.result c.wrong_count.ensures
-    c.refusal.ensures
+returns g c = λ spec. refusal_judges spec (g.S.CardSource.card c.args.source.now) c.check_counts.result c.check_counts.ensures

@@ -1,5 +1,5 @@
 use Rattle.std.proofs.Common.{arith}
-use Rattle.formed.proofs.Tested.{mask_wide, mask_narrow}
+use Rattle.formed.proofs.Masks.{mask_wide, mask_narrow}
 use Rattle.formed.proofs.form.mask_formed.Goals as goal
 
 pub returns-then-variables-ge16 : goal.returns-then-variables-ge16
