@@ -17,6 +17,7 @@ use Rattle.tableau.proofs.Tests.{all_tells}
 use Rattle.tableau.proofs.Joined.{place_in, in_place}
 use Rattle.records.specs.declared.NodeRecord.{NodeRecord}
 use Rattle.records.specs.Raw.{RawCard, move_of, model}
+use Rattle.card.specs.declared.variables.Variables.{Variables}
 use Rattle.coverings.specs.declared.cube.Side.{Side}
 use Rattle.coverings.specs.declared.cube.Side.TheVariants.{Environment, System}
 use Rattle.coverings.specs.Cubes.{Formed, cube_of}
@@ -54,42 +55,42 @@ formed_none : (side : Side) (n : ℕ) → Formed n (cube_of side no_move)
 formed_none Environment n = record { inside = refl; below = pow_pos n }
 formed_none System n = record { inside = refl; below = pow_pos n }
 
-module _ (c : RawCard) (spec : Spec) (environment system : ℕ) (x : NodeRecord) (ready : Ready c spec environment system x) where
+module _ (c : RawCard) (spec : Spec) (variables : Variables) (x : NodeRecord) (ready : Ready c spec variables x) where
   -- ── the cubes ──
   past : (m : ℕ) → length c.moves ≤ m → move_at (model c) m ≡ no_move
   past m l =
       get_or-eq_default (map move_of c.moves) no_move
       (subst (λ (n : ℕ). n ≤ m) (sym (length-map c.moves move_of)) l)
 
-  each_environment : (m : ℕ) → Formed environment (cube_of Environment (move_at (model c) m))
+  each_environment : (m : ℕ) → Formed variables.environment (cube_of Environment (move_at (model c) m))
   each_environment m = elim (cases_lt m (length c.moves)) [
-    | inl l ↦ subst (λ (n : ℕ). Formed n (cube_of Environment (move_at (model c) m))) ready.environment_is
+    | inl l ↦ subst (λ (n : ℕ). Formed n (cube_of Environment (move_at (model c) m))) ready.sizes.0
         (formed_environment spec (move_at (model c) m) (ready.moves m l))
-    | inr l ↦ subst (λ (y : Move). Formed environment (cube_of Environment y)) (sym (past m l)) (formed_none Environment environment)
+    | inr l ↦ subst (λ (y : Move). Formed variables.environment (cube_of Environment y)) (sym (past m l)) (formed_none Environment variables.environment)
   ]
 
-  each_system : (m : ℕ) → Formed system (cube_of System (move_at (model c) m))
+  each_system : (m : ℕ) → Formed variables.system (cube_of System (move_at (model c) m))
   each_system m = elim (cases_lt m (length c.moves)) [
-    | inl l ↦ subst (λ (n : ℕ). Formed n (cube_of System (move_at (model c) m))) ready.system_is
+    | inl l ↦ subst (λ (n : ℕ). Formed n (cube_of System (move_at (model c) m))) ready.sizes.1
         (formed_system spec (move_at (model c) m) (ready.moves m l))
-    | inr l ↦ subst (λ (y : Move). Formed system (cube_of System y)) (sym (past m l)) (formed_none System system)
+    | inr l ↦ subst (λ (y : Move). Formed variables.system (cube_of System y)) (sym (past m l)) (formed_none System variables.system)
   ]
 
-  pub inputs : Cubes Environment c environment
+  pub inputs : Cubes Environment c variables.environment
   inputs = record { few = ready.few_inputs; formed = each_environment }
 
-  pub replies : Cubes System c system
+  pub replies : Cubes System c variables.system
   replies = record { few = ready.few_replies; formed = each_system }
 
   abbrev ms : List Move
   ms = moves_from c x
 
   -- ── open cards ──
-  pub open_kept : eqb c.kind 1 ≡ true → once Environment environment ms ≡ keeps_covering (kind_of (model c)) spec ms
+  pub open_kept : opened ≡ kind_of (model c) → once Environment variables.environment ms ≡ keeps_covering (kind_of (model c)) spec ms
   open_kept e =
-      sym (ap (λ b. keeps_covering (cond b opened closed) spec ms) e
+      sym (ap (λ k. keeps_covering k spec ms) (sym e)
       ∙ (λ j. all (λ v. not (holds (λ k. reading (record { env = v; sys = 0 })) (ready.unconstrained j)) || eqb (count (fits_env v) ms) 1)
-      (span (2 ^ ready.environment_is j) 0)))
+      (span (2 ^ ready.sizes.0 j) 0)))
 
   -- ── closed cards ──
   abbrev first : Move
@@ -105,9 +106,9 @@ module _ (c : RawCard) (spec : Spec) (environment system : ℕ) (x : NodeRecord)
       below : m.env_values < 2 ^ spec.environment
       below =
           let p = place_in (move_at (model c)) x.move_count x.first_move i in
-          let f = subst (λ (y : Move). Formed environment (cube_of Environment y)) p.2 (each_environment p.0) in
+          let f = subst (λ (y : Move). Formed variables.environment (cube_of Environment y)) p.2 (each_environment p.0) in
           let l = and_le_r m.env_values m.env_mask in
-          let e = ap (λ (n : ℕ). 2 ^ n) ready.environment_is in
+          let e = ap (λ (n : ℕ). 2 ^ n) ready.sizes.0 in
           omega (arith, f.inside, f.below)
 
   same_parts : (m k : Move) → same_input m k ≡ true → (m.env_mask ≡ k.env_mask) × (m.env_values ≡ k.env_values)
@@ -147,7 +148,7 @@ module _ (c : RawCard) (spec : Spec) (environment system : ℕ) (x : NodeRecord)
           let r = and_out (all (same_input first) ms) (permitted spec first.env_values) o in
           (all_in (same_input first) ms).0 r.0 m i)
 
-  pub closed_kept : eqb c.kind 1 ≡ false → (alike c x && once System system ms) ≡ keeps_covering (kind_of (model c)) spec ms
+  pub closed_kept : closed ≡ kind_of (model c) → (alike c x && once System variables.system ms) ≡ keeps_covering (kind_of (model c)) spec ms
   closed_kept e =
-      (λ j. one_input_alike j && all (λ v. eqb (count (fits_sys v) ms) 1) (span (2 ^ sym ready.system_is j) 0))
-      ∙ sym (ap (λ b. keeps_covering (cond b opened closed) spec ms) e)
+      (λ j. one_input_alike j && all (λ v. eqb (count (fits_sys v) ms) 1) (span (2 ^ sym ready.sizes.1 j) 0))
+      ∙ ap (λ k. keeps_covering k spec ms) e

@@ -9,6 +9,8 @@ use Rattle.tableau.specs.Form.{move_formed}
 use Rattle.tableau.specs.Conditions.{same_input, keeps_covering}
 use Rattle.records.specs.declared.NodeRecord.{NodeRecord}
 use Rattle.records.specs.Raw.{RawCard, model}
+use Rattle.card.specs.declared.variables.Variables.{Variables}
+use Rattle.card.specs.Variables.{HasVariables}
 use Rattle.coverings.specs.declared.cube.Side.{Side}
 use Rattle.coverings.specs.Cubes.{agrees, Formed, cube_of}
 
@@ -33,15 +35,14 @@ abbrev pub alike : RawCard → NodeRecord → Bool
 alike c x = all (same_input (move_at (model c) x.first_move)) (moves_from c x)
 
 -- what is known when coverings are judged
-pub record Ready (c : RawCard) (spec : Spec) (environment system : ℕ) (x : NodeRecord) : Type 0 where
-  pub environment_is : spec.environment ≡ environment
-  pub few_inputs : environment ≤ 16
-  pub system_is : spec.system ≡ system
-  pub few_replies : system ≤ 16
+pub record Ready (c : RawCard) (spec : Spec) (variables : Variables) (x : NodeRecord) : Type 0 where
+  pub sizes : HasVariables spec variables
+  pub few_inputs : variables.environment ≤ 16
+  pub few_replies : variables.system ≤ 16
   pub unconstrained : spec.third ≡ top
   pub moves : (m : ℕ) → m < length c.moves → move_formed spec (move_at (model c) m) ≡ true
   pub inside : x.first_move + x.move_count ≤ length c.moves
 
-abbrev pub DecidesCovering : RawCard → ℕ → ℕ → NodeRecord → Bool → Type 0
-DecidesCovering c environment system x r =
-    (spec : Spec) → Ready c spec environment system x → r ≡ keeps_covering (kind_of (model c)) spec (moves_from c x)
+abbrev pub DecidesCovering : RawCard → Variables → NodeRecord → Bool → Type 0
+DecidesCovering c variables x r =
+    (spec : Spec) → Ready c spec variables x → r ≡ keeps_covering (kind_of (model c)) spec (moves_from c x)

@@ -1,4 +1,4 @@
-// Cubes: sets of valuations of variables. Bit i of a valuation is the value of variable i.
+//! Cubes: sets of valuations of variables. Bit i of a valuation is the value of variable i.
 ghost use Rattle.std.specs.Prelude.{◌≡◌, ◌<◌};
 ghost use Rattle.temporal.specs.Game.{bit};
 ghost use Rattle.records.specs.Raw.{move_of};

@@ -1,3 +1,4 @@
+use Rattle.std.proofs.Common.{◌≡◌, ◌-◌, min}
 use Rattle.coverings.proofs.Counts.{AllFormed, Counted}
 use Rattle.coverings.proofs.covering.covers_once.Given as goal
 
@@ -5,4 +6,5 @@ use Rattle.coverings.proofs.covering.covers_once.Given as goal
 abbrev pub invariant-loop-k : goal.invariant-loop-k
 invariant-loop-k g l =
     let c = g.S.CardSource.card l.source in
-    AllFormed l.side c l.node l.high → Counted l.side c l.node l.high l.words l.k
+    (l.marks.high ≡ min (l.variables - 6) 10)
+    × (AllFormed l.side c l.node l.marks.high → Counted l.side c l.node l.marks.high l.marks.words l.k)

@@ -4,7 +4,7 @@ use Rattle.coverings.specs.declared.cube.Cube.{Cube}
 use Rattle.coverings.specs.Bitmap.{free_high}
 use Rattle.coverings.proofs.Bits.{and_twice}
 use Rattle.coverings.proofs.Subsets.{Done, done_start, turn_stops, turn_next, turn_ends}
-use Rattle.coverings.proofs.bitmap.mark.Goals as goal
+use Rattle.coverings.proofs.bitmap.mark_cube.Goals as goal
 
 free_lt : (high : ℕ) (cube : Cube) → high ≤ 10 → cube.mask < 2 ^ 16 → free_high high cube < 2 ^ 10
 free_lt high cube h m =

@@ -4,7 +4,7 @@ use Rattle.coverings.specs.declared.cube.Cube.{Cube}
 use Rattle.coverings.specs.Cubes.{Formed, low_word}
 use Rattle.coverings.specs.Bitmap.{free_high}
 use Rattle.coverings.proofs.Subsets.{Done}
-use Rattle.coverings.proofs.bitmap.mark.Given as goal
+use Rattle.coverings.proofs.bitmap.mark_cube.Given as goal
 
 -- the words of all larger subsets are marked
 abbrev pub invariant-subsets : goal.invariant-subsets
