@@ -1,5 +1,5 @@
 -- The covering of a node by its parts: exactly one move for each valuation, and one input on a closed card.
-use Rattle.std.proofs.Common.{◌≡◌, ℕ, ◌^◌, ◌<◌, ◌≤◌, Bool, true, false, cond, not, ◌&&◌, ◌||◌, eqb, ltb, List, map, length, sym, refl, ap, ◌∙◌, subst, inl, inr, arith, pow_pos, ltb-true, lt-ltb, eq-eqb, eqb-true}
+use Rattle.std.proofs.Common.{◌≡◌, ℕ, ◌^◌, ◌<◌, ◌≤◌, Bool, true, not, ◌&&◌, ◌||◌, eqb, ltb, List, map, length, sym, refl, ap, ◌∙◌, subst, inl, inr, arith, pow_pos, ltb-true, lt-ltb, eq-eqb, eqb-true}
 use lib.Bits.{bit_and, and_le_r}
 use lib.ListN.{length-map, get_or-eq_default}
 use Rattle.std.proofs.lemmas.Bool.{cases_lt}

@@ -1,17 +1,16 @@
-// Depths of a closed card: that of a node is 1 plus the largest of the targets of its moves, the end counting 0.
+//! Depths of a closed card: that of a node is 1 plus the largest of the targets of its moves, the end counting 0.
 #![tactic(auto)]
 
 ghost use Rattle.std.specs.Prelude.{◌≡◌, ◌+◌, ◌-◌, ◌^◌, min, max};
 ghost use Rattle.tableau.specs.Judge.{target_depth, depth_at};
-ghost use Rattle.records.specs.Raw.{target_of, model};
+ghost use Rattle.records.specs.Raw.{model};
+ghost use Rattle.card.specs.Named.{target_named};
 ghost use Rattle.depth.specs.Descending.{Descending};
 ghost use Rattle.depth.specs.Deepest.{held_depth, deepest_from};
 
+use card::entries::{Target, move_of, node_of, target_of};
 use card::source::CardSource;
 use records::NodeRecord;
-
-/// The target of a move that leads to the end.
-const END: u16 = 65535;
 
 /// The largest count of a card's nodes.
 const NODES: usize = 1024;
@@ -20,16 +19,16 @@ const NODES: usize = 1024;
 fn node_depth(depths: &[u16; 1024], node: usize) -> u16
     ensures { result ≡ held_depth depths.now node }
 {
-    if node < NODES { depths[node] } else { 0 }
+    depths.get(node).copied().unwrap_or(0)
 }
 
 /// The depth of a target, by the depths of the nodes.
-fn target_depth(depths: &[u16; 1024], target: u16) -> u16
-    ensures { result ≡ target_depth (held_depth depths.now) (target_of target) }
+fn target_depth(depths: &[u16; 1024], target: Target) -> u16
+    ensures { result ≡ target_depth (held_depth depths.now) (target_named target) }
 {
     match target {
-        END => 0,
-        node => node_depth(depths, node as usize),
+        Target::End => 0,
+        Target::Node(node) => node_depth(depths, node as usize),
     }
 }
 
@@ -37,7 +36,7 @@ fn target_depth(depths: &[u16; 1024], target: u16) -> u16
 fn deeper(a: u16, b: u16) -> u16
     ensures { result ≡ max a b }
 {
-    if a < b { b } else { a }
+    a.max(b)
 }
 
 /// The depth of a node whose deepest target has this depth.
@@ -52,13 +51,10 @@ fn deepest_target<S: CardSource>(source: &S, node: NodeRecord, depths: &[u16; 10
     ensures { result ≡ deepest_from (model (S.card source.now)) (held_depth depths.now) node.move_count node.first_move }
 {
     let first = node.first_move as usize;
-    let count = node.move_count as usize;
     let mut deepest = 0;
-    for k in 0..count {
-        let Some(step) = source.move_at(first + k) else {
-            break;
-        };
-        deepest = deeper(deepest, target_depth(depths, step.target));
+    for k in 0..node.move_count as usize {
+        let target = target_of(move_of(source, first + k));
+        deepest = deeper(deepest, target_depth(depths, target));
     }
     deepest
 }
@@ -69,9 +65,7 @@ pub fn depth<S: CardSource>(source: &S) -> usize
 {
     let mut depths = [0; 1024];
     for n in (0..source.node_count().min(NODES)).rev() {
-        let Some(node) = source.node_at(n) else {
-            break;
-        };
+        let node = node_of(source, n);
         depths[n] = above(deepest_target(source, node, &depths));
     }
     depths[0] as usize

@@ -1,4 +1,4 @@
-use Rattle.std.proofs.Common.{◌≡◌, ℕ, ◌^◌, ◌<◌, ◌≤◌, Bool, true, false, List, length, take, get_or, refl, sym, ap, ◌∙◌, subst, true≢false, rules, arith, pow_mono}
+use Rattle.std.proofs.Common.{◌≡◌, ℕ, ◌^◌, ◌<◌, ◌≤◌, Bool, true, false, List, length, take, refl, sym, ap, ◌∙◌, subst, true≢false, rules, arith, pow_mono}
 use Rattle.std.specs.Bool.{MatchBool}
 use Rattle.std.specs.List.{AllWithin, HoldsAt}
 use Rattle.std.proofs.lemmas.List.{length-take-le, get_or-take}
@@ -26,7 +26,7 @@ full_first ws high n false e long (k, l, empty) = (
   λ t. absurd (true≢false (sym t)),
   λ full.
       let m : k < n = omega (arith, length-take-le n ws long) in
-      absurd (true≢false (sym (full k (omega (arith, e))) ∙ ap full_word (sym (get_or-take n ws k 0 m)) ∙ no 0)),
+      absurd (true≢false (sym (full k (omega (arith, e))) ∙ ap full_word (sym (get_or-take n ws k 0 m)) ∙ empty 0)),
 )
 
 pub returns : goal.returns
