@@ -1,12 +1,11 @@
 -- The pass from the last node to the first: what the array of depths holds.
-use Rattle.std.proofs.Common.{◌≡◌, ℕ, ◌+◌, ◌-◌, ◌^◌, ◌<◌, ◌≤◌, min, List, length, set, Some, sym, ap, ◌∙◌, subst, inl, inr, eq-zero-or-pos, eq-or-lt_of_le, arith, get_or-set_other, get_or-set_same}
-use Rattle.std.specs.List.{slice_get}
-use Rattle.tableau.specs.Card.{Node, closed, move_at, moves_of}
+use Rattle.std.proofs.Common.{◌≡◌, ℕ, ◌+◌, ◌-◌, ◌^◌, ◌<◌, ◌≤◌, min, List, length, set, sym, ap, ◌∙◌, subst, inl, inr, eq-zero-or-pos, eq-or-lt_of_le, arith, get_or-set_other, get_or-set_same}
+use Rattle.tableau.specs.Card.{Node, closed, node_at, move_at, moves_of}
 use Rattle.tableau.specs.Judge.{deepest, depth_in, depth_at}
 use Rattle.tableau.specs.Acceptable.{MoveOf, TargetKept}
 use Rattle.records.specs.declared.NodeRecord.{NodeRecord}
-use Rattle.records.specs.Raw.{RawCard, model}
-use Rattle.card.proofs.Model.{model_nodes, node_some}
+use Rattle.records.specs.Raw.{RawCard, node_of, model}
+use Rattle.card.proofs.Model.{model_nodes}
 use Rattle.depth.specs.Descending.{Descending}
 use Rattle.depth.specs.Deepest.{held_depth, deepest_from}
 use Rattle.depth.proofs.Rounds.{same_above, depth_step, deepest_most, depth_most}
@@ -36,7 +35,7 @@ module _ (c : RawCard) (ok : Descending c) where
       (ok.targets n m (omega (arith, model_nodes c)) o)
 
   -- the deepest target of a node, from the depths above it
-  pub node_depth : (depths : List ℕ) (n r : ℕ) (x : NodeRecord) → Some x ≡ slice_get c.nodes n → n < length c.nodes
+  pub node_depth : (depths : List ℕ) (n r : ℕ) (x : NodeRecord) → node_of x ≡ node_at (model c) n → n < length c.nodes
       → Passed c depths (n + 1) → r ≡ deepest_from (model c) (held_depth depths) x.move_count x.first_move
       → min (r + 1) (2 ^ 16 - 1) ≡ depth_at (model c) n
   node_depth depths n r x e l p d =
@@ -46,7 +45,7 @@ module _ (c : RawCard) (ok : Descending c) where
       let same = same_above (model c) N targets (held_depth depths) (depth_at (model c)) n l'
       (λ k a b. p.held k (omega arith) (omega (arith, model_nodes c))) in
       let at : deepest_from (model c) (held_depth depths) x.move_count x.first_move ≡ deepest (held_depth depths) (moves_of (model c) n) =
-      ap (λ (y : Node). deepest_from (model c) (held_depth depths) y.move_count y.first_move) (sym (node_some c n x e)) in
+      ap (λ (y : Node). deepest_from (model c) (held_depth depths) y.move_count y.first_move) e in
       let step = depth_step (model c) n targets l' in
       let most = deepest_most (depth_at (model c)) N (depth_most N (moves_of (model c))) (moves_of (model c) n) in
       omega arith

@@ -8,4 +8,4 @@ abbrev pub invariant-loop-k : goal.invariant-loop-k
 invariant-loop-k g l =
     let c = model (g.S.CardSource.card l.source) in
     let d = held_depth l.depths in
-    max l.deepest (deepest_from c d (l.count - l.k) (l.first + l.k)) ≡ deepest_from c d l.count l.first
+    max l.deepest (deepest_from c d (l.fn.node.move_count - l.k) (l.first + l.k)) ≡ deepest_from c d l.fn.node.move_count l.first
