@@ -1,5 +1,5 @@
 -- The rests of a marked set, and whether a set covers another: what a pass over the marks has found.
-use Rattle.std.proofs.Common.{◌≡◌, ℕ, ◌+◌, ◌<◌, ◌≤◌, Bool, true, false, ◌⊎◌, List, length, get_or, Some, None, Option, sym, refl, ap, ◌∙◌, subst, inl, inr, arith}
+use Rattle.std.proofs.Common.{◌≡◌, ℕ, ◌+◌, ◌<◌, ◌≤◌, Bool, true, false, ◌⊎◌, List, length, get_or, Some, None, Option, sym, ap, ◌∙◌, subst, inl, inr, arith}
 use mathlib.Core.Bool.{false≢true}
 use native.Mathlib.Decide.{ℕ_discrete}
 use Rattle.temporal.specs.Formula.{Formula, bot, Reading, rest}
@@ -33,11 +33,6 @@ below_or_here j i l = elim (ℕ_discrete j i) [ yes e ↦ inr e | no n ↦ inl (
 
 pub true_false : {b : Bool} → b ≡ true → b ≡ false → ⊥
 true_false t f = false≢true (sym f ∙ t)
-
--- an answer that is nothing else is none
-pub none_left : {A : Type 0} (o : Option A) → ((k : A) → o ≡ Some k → ⊥) → o ≡ None
-none_left None h = refl
-none_left (Some k) h = absurd (h k refl)
 
 pub sifted_none : (memo : List (Option ℕ)) (ms out : List Bool) → ((k : ℕ) → marked out k ≡ false) → Sifted memo ms 0 out
 sifted_none memo ms out h = record {

@@ -1,16 +1,16 @@
-// The tests of the root and of a step.
+//! The tests of the root and of a step.
 ghost use Rattle.std.specs.Prelude.{◌≡◌};
 ghost use Rattle.tableau.specs.Moves.{end, node};
 ghost use Rattle.tableau.specs.Card.{opened, closed, kind_of};
 ghost use Rattle.tableau.specs.Conditions.{reading_of};
-ghost use Rattle.records.specs.Raw.{model, move_of};
+ghost use Rattle.records.specs.Raw.{RawCard, model, move_of};
 ghost use Rattle.rested.specs.Listing.{Ready};
 ghost use Rattle.rested.specs.Rests.{AllRested};
 ghost use Rattle.card.specs.Named.{kind_named, target_named};
 ghost use Rattle.steps.specs.Steps.{TellsRoot, TellsStep};
 
-use card::entries::{Kind, Target, kind_of, node_of};
 use crate::sets::{all_covered, label_marks, only};
+use card::entries::{Kind, Target, kind_of, node_of};
 use card::source::CardSource;
 use covered::cover::covered_by;
 use covered::hold::hold;
@@ -59,44 +59,15 @@ fn covers_label<S: CardSource>(
 }
 
 /// Closed, at the end: the rests hold false.
-fn holds_false<S: CardSource>(source: &S, records: &[FormulaRecord], rests: &[bool; 1024]) -> bool
-    ensures { TellsStep closed (S.card source.now) records.now rests.now end result }
+fn holds_false(records: &[FormulaRecord], rests: &[bool; 1024]) -> bool
+    ensures { (c : RawCard) → TellsStep closed c records.now rests.now end result }
 {
-    let _source = source;
     let mut held = *rests;
     hold(records, &mut held);
     is_marked(&held, 0)
 }
 
-fn open_step_kept<S: CardSource>(
-    source: &S,
-    records: &[FormulaRecord],
-    rests: &[bool; 1024],
-    target: Target,
-) -> bool
-    ensures { TellsStep opened (S.card source.now) records.now rests.now (target_named target) result }
-{
-    match target {
-        Target::End => false,
-        Target::Node(k) => label_covers(source, records, rests, k),
-    }
-}
-
-fn closed_step_kept<S: CardSource>(
-    source: &S,
-    records: &[FormulaRecord],
-    rests: &[bool; 1024],
-    target: Target,
-) -> bool
-    ensures { TellsStep closed (S.card source.now) records.now rests.now (target_named target) result }
-{
-    match target {
-        Target::End => holds_false(source, records, rests),
-        Target::Node(k) => covers_label(source, records, rests, k),
-    }
-}
-
-/// Is the step to a target kept, where the marks are those of the rests?
+/// Is the step to a target kept, where the marks are those of the rests? An open card has no step to the end.
 pub fn step_kept<S: CardSource>(
     source: &S,
     kind: Kind,
@@ -106,9 +77,11 @@ pub fn step_kept<S: CardSource>(
 ) -> bool
     ensures { TellsStep (kind_named kind) (S.card source.now) records.now rests.now (target_named target) result }
 {
-    match kind {
-        Kind::Open => open_step_kept(source, records, rests, target),
-        Kind::Closed => closed_step_kept(source, records, rests, target),
+    match (kind, target) {
+        (Kind::Open, Target::End) => false,
+        (Kind::Open, Target::Node(k)) => label_covers(source, records, rests, k),
+        (Kind::Closed, Target::End) => holds_false(records, rests),
+        (Kind::Closed, Target::Node(k)) => covers_label(source, records, rests, k),
     }
 }
 

@@ -1,6 +1,6 @@
-// Sets of a card's formulas as marks: labels, and the rests of a set.
-ghost use Rattle.std.specs.Prelude.{◌≡◌, false, replicate};
-ghost use Rattle.covered.specs.Marks.{mark};
+//! Sets of a card's formulas as marks: labels, and the rests of a set.
+ghost use Rattle.std.specs.Prelude.{◌≡◌, not, ◌||◌, false, replicate};
+ghost use Rattle.covered.specs.Marks.{mark, marked};
 ghost use Rattle.steps.specs.Sets.{AddsLabel, MarksLabel, MarksObligations, TakesRests, TellsCovered};
 
 use card::entries::label_of;
@@ -58,23 +58,23 @@ pub fn rest_marks(
     let mut rests = [false; 1024];
     for i in 0..count.min(1024) {
         if is_marked(marks, i) {
-            let Some(rest) = memo[i] else {
-                return None;
-            };
+            let rest = memo[i]?;
             set_mark(&mut rests, rest as usize);
         }
     }
     Some(rests)
 }
 
+/// Is formula i covered, if it is marked?
+fn is_covered(marks: &[bool; 1024], covered: &[bool; 1024], i: usize) -> bool
+    ensures { result ≡ (not (marked marks.now i) || marked covered.now i) }
+{
+    !is_marked(marks, i) || is_marked(covered, i)
+}
+
 /// Is each marked one among the first `count` formulas covered?
 pub fn all_covered(count: usize, marks: &[bool; 1024], covered: &[bool; 1024]) -> bool
     ensures { TellsCovered count marks.now covered.now result }
 {
-    for i in 0..count.min(1024) {
-        if is_marked(marks, i) && !is_marked(covered, i) {
-            return false;
-        }
-    }
-    true
+    (0..count.min(1024)).all(|i| is_covered(marks, covered, i))
 }

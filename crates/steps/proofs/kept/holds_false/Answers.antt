@@ -3,8 +3,7 @@ use Rattle.steps.proofs.Roots.{false_held, listed_as, members_as, held_as}
 use Rattle.steps.proofs.kept.holds_false.Goals as goal
 
 pub returns : goal.returns
-returns g c spec S known e listed members =
-    let s = g.S.CardSource.card c.args.source.now in
+returns c s spec S known e listed members =
     let rs = c.args.records.now in
     c.is_marked.ensures
     ∙ false_held spec s known S (listed_as rs s.formulas e S listed) c.args.rests.now c.hold.new.marks

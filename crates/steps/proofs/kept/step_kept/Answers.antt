@@ -1,18 +1,23 @@
-use Rattle.std.proofs.Common.{sym, ap, ◌∙◌}
+use Rattle.std.proofs.Common.{sym, ◌∙◌}
 use Rattle.tableau.specs.Conditions.{keeps_step}
 use Rattle.records.specs.Raw.{model}
 use Rattle.card.specs.Named.{kind_named, target_named}
-use Rattle.card.specs.declared.entries.Kind.{Kind}
 use Rattle.steps.proofs.kept.step_kept.Goals as goal
 
-pub returns-in-Open : goal.returns-in-Open
-returns-in-Open g c spec S known e listed members =
-    let s = g.S.CardSource.card c.args.source.now in
-    c.open_step_kept.ensures spec S known e listed members
-    ∙ ap (λ (k : Kind). keeps_step (kind_named k) (model s) S (target_named c.args.target)) (sym c.in-Open.is)
+pub returns-in-Open-Node : goal.returns-in-Open-Node
+returns-in-Open-Node g c spec S known e listed members =
+    let card = model (g.S.CardSource.card c.args.source.now) in
+    c.label_covers.ensures spec S known e listed members
+    ∙ (λ j. keeps_step (kind_named (sym c.in-Open-Node.is-0 j)) card S (target_named (sym c.in-Open-Node.is-1 j)))
 
-pub returns-in-Closed : goal.returns-in-Closed
-returns-in-Closed g c spec S known e listed members =
-    let s = g.S.CardSource.card c.args.source.now in
-    c.closed_step_kept.ensures spec S known e listed members
-    ∙ ap (λ (k : Kind). keeps_step (kind_named k) (model s) S (target_named c.args.target)) (sym c.in-Closed.is)
+pub returns-in-Closed-End : goal.returns-in-Closed-End
+returns-in-Closed-End g c spec S known e listed members =
+    let raw = g.S.CardSource.card c.args.source.now in
+    c.holds_false.ensures raw spec S known e listed members
+    ∙ (λ j. keeps_step (kind_named (sym c.in-Closed-End.is-0 j)) (model raw) S (target_named (sym c.in-Closed-End.is-1 j)))
+
+pub returns-in-Closed-Node : goal.returns-in-Closed-Node
+returns-in-Closed-Node g c spec S known e listed members =
+    let card = model (g.S.CardSource.card c.args.source.now) in
+    c.covers_label.ensures spec S known e listed members
+    ∙ (λ j. keeps_step (kind_named (sym c.in-Closed-Node.is-0 j)) card S (target_named (sym c.in-Closed-Node.is-1 j)))

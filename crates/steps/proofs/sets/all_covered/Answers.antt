@@ -1,26 +1,63 @@
-use Rattle.std.proofs.Common.{sym, ◌∙◌, arith, below_more}
-use Rattle.steps.proofs.Sifts.{all_covered, not_all_covered, true_false}
+use Rattle.std.proofs.Common.{◌≡◌, ℕ, ◌<◌, Bool, true, false, not, ◌||◌, List, length, get_or, refl, sym, subst, true≢false, rules, arith}
+use Rattle.std.specs.Bool.{MatchBool}
+use Rattle.std.specs.List.{AllWithin, HoldsAt, range_with_len}
+use Rattle.std.proofs.lemmas.List.FromFn.{length-range_with_len, get_or-range_with_len}
+use Rattle.std.proofs.lemmas.Iterator.{cases_from_all, YieldsList-from_range}
+use Rattle.temporal.specs.Formula.{Formula}
+use Rattle.temporal.specs.Game.{Spec}
+use Rattle.tableau.specs.Lists.{all}
+use Rattle.tableau.specs.Cover.{covers}
+use Rattle.records.specs.declared.FormulaRecord.{FormulaRecord}
+use Rattle.records.specs.Table.{Table, Listed}
+use Rattle.covered.specs.Marks.{marked}
+use Rattle.covered.specs.Meaning.{Members, Covers}
+use Rattle.steps.proofs.Sifts.{all_covered, not_all_covered}
 use Rattle.steps.proofs.sets.all_covered.Goals as goal
-use Rattle.steps.proofs.sets.all_covered.Goals.{else-is_marked-via-then-is_marked+else-not-is_marked, else-is_marked-via-else-is_marked}
 
-pub loop-i-init : goal.loop-i-init
-loop-i-init c j l = absurd (omega arith)
+implied : (a b : Bool) → (not a || b) ≡ true → a ≡ true → b ≡ true
+implied true b h e = h
+implied false b h e = absurd (true≢false (sym e))
 
-pub returns-then-not-is_marked : goal.returns-then-not-is_marked
-returns-then-not-is_marked c spec rs S L n t listed members covering =
-    sym (not_all_covered spec rs t S listed c.args.marks.now members L c.args.covered.now covering c.loop-i.i
-    (omega (arith, c.min-i-end.ensures)) (sym c.is_marked.ensures ∙ c.if-is_marked.true)
-    (sym c.is_marked-then-is_marked.ensures ∙ c.if-not-is_marked.true))
+refuted : (a b : Bool) → (not a || b) ≡ false → (a ≡ true) × (b ≡ false)
+refuted true b h = (refl, h)
+refuted false b h = absurd (true≢false h)
 
-pub loop-i-preserved : goal.loop-i-preserved
-loop-i-preserved c =
-    below_more _ _ c.loop-i.invariant
-    (elim c.else-is_marked.branch [
-      | else-is_marked-via-then-is_marked+else-not-is_marked w ↦ λ m. sym w.is_marked-then-is_marked.ensures ∙ w.if-not-is_marked.false
-      | else-is_marked-via-else-is_marked w ↦ λ m. absurd (true_false m (sym c.is_marked.ensures ∙ w.if-is_marked.false))
-    ])
+-- the test of each place in turn
+each_or_one : (n : ℕ) (ms cs : List Bool) (r : Bool) → MatchBool r
+    (AllWithin (λ i. (not (marked ms i) || marked cs i) ≡ true) (range_with_len 0 n) 0 (length (range_with_len 0 n)))
+    ((k : ℕ) × (k < length (range_with_len 0 n)) × HoldsAt (λ i. (not (marked ms i) || marked cs i) ≡ false) (range_with_len 0 n) k)
+    → MatchBool r ((i : ℕ) → i < n → marked ms i ≡ true → marked cs i ≡ true)
+    ((i : ℕ) × (i < n) × (marked ms i ≡ true) × (marked cs i ≡ false))
+each_or_one n ms cs true h = λ i l m.
+    let long = length-range_with_len 0 n in
+    let at = get_or-range_with_len 0 n i 0 l in
+    let e : get_or (range_with_len 0 n) i 0 ≡ i = omega (arith, at) in
+    implied (marked ms i) (marked cs i)
+    (subst (λ (j : ℕ). (not (marked ms j) || marked cs j) ≡ true) e (h i 0 (omega arith) (omega (arith, long)))) m
+each_or_one n ms cs false (k, l, here) =
+    let long = length-range_with_len 0 n in
+    let below : k < n = omega (arith, long) in
+    let at = get_or-range_with_len 0 n k 0 below in
+    let e : get_or (range_with_len 0 n) k 0 ≡ k = omega (arith, at) in
+    let t = refuted (marked ms k) (marked cs k) (subst (λ (j : ℕ). (not (marked ms j) || marked cs j) ≡ false) e (here 0)) in
+    (k, below, t.0, t.1)
+
+-- the answer by what the test of each place said
+answered : (spec : Spec) (rs : List FormulaRecord) (t : Table spec rs) (S L : List Formula) (listed : Listed rs S)
+    (ms cs : List Bool) (members : Members rs S ms) (covering : Covers rs L cs) (n : ℕ) (r : Bool) → n ≡ length rs
+    → MatchBool r ((i : ℕ) → i < n → marked ms i ≡ true → marked cs i ≡ true)
+    ((i : ℕ) × (i < n) × (marked ms i ≡ true) × (marked cs i ≡ false))
+    → r ≡ all (covers L) S
+answered spec rs t S L listed ms cs members covering n true e h =
+    sym (all_covered spec rs t S listed ms members L cs covering (λ i l m. h i (omega (arith, e)) m))
+answered spec rs t S L listed ms cs members covering n false e (i, l, m, u) =
+    sym (not_all_covered spec rs t S listed ms members L cs covering i (omega (arith, e)) m u)
 
 pub returns : goal.returns
 returns c spec rs S L n t listed members covering =
-    sym (all_covered spec rs t S listed c.args.marks.now members L c.args.covered.now covering
-    (λ i l m. c.loop-i.invariant i (omega (arith, t.few, c.min-i-end.ensures)) m))
+    let ms = c.args.marks.now in
+    let cs = c.args.covered.now in
+    answered spec rs t S L listed ms cs members covering c.min.result c.all.result (omega (arith, t.few, n, c.min.ensures))
+    (each_or_one c.min.result ms cs c.all.result
+    (cases_from_all _ _ c.all.result (λ (i : ℕ). (not (marked ms i) || marked cs i) ≡ true) (λ (i : ℕ). (not (marked ms i) || marked cs i) ≡ false)
+    c.all.ensures.ran (YieldsList-from_range 0 c.min.result c.min.result refl (omega arith)) (λ x q k. search rules) (λ x q k. search rules)))
