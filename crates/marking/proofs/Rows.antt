@@ -6,14 +6,13 @@ use Rattle.tableau.specs.Lists.{span, concat_map}
 use Rattle.tableau.specs.Card.{Node, kind_of, node_at, move_at, label_of}
 use Rattle.tableau.specs.Conditions.{Condition, kept, keeps_covering, label_kept, covering_kept, target_kept, at_move, at_node, obligations}
 use Rattle.tableau.specs.Judge.{judged_by}
-use Rattle.index.specs.declared.Slot.{Slot}
 use Rattle.records.specs.declared.FormulaRecord.{FormulaRecord}
 use Rattle.records.specs.declared.NodeRecord.{NodeRecord}
 use Rattle.records.specs.Raw.{RawCard, model, node_of}
 use Rattle.records.specs.Table.{Listed, formula_of}
 use Rattle.card.proofs.Model.{model_moves}
 use Rattle.covered.specs.Meaning.{Members}
-use Rattle.rested.specs.declared.key.FormulaKey.{FormulaKey}
+use Rattle.card.specs.declared.variables.Variables.{Variables}
 use Rattle.coverings.specs.Coverings.{DecidesCovering, Ready as Splitting}
 use Rattle.steps.specs.Sets.{MarksObligations, label_in}
 use Rattle.steps.proofs.Roots.{label_same, listed_as, members_as, obligations_listed}
@@ -38,19 +37,18 @@ pub node_is : (spec : Spec) (c : RawCard) (x : NodeRecord) (n : ℕ) → node_of
 node_is spec c x n e = ap (λ (y : Node). judged_by spec (model c) (node_by n y)) e
 
 -- ── the covering ──
-pub covering_judged : (spec : Spec) (c : RawCard) (environment system : ℕ) (x : NodeRecord) (n : ℕ) → Splitting c spec environment system x
-    → node_of x ≡ node_at (model c) n → (b : Bool) → DecidesCovering c environment system x b → b ≡ kept spec (model c) (covering_kept n)
-covering_judged spec c environment system x n ready e b decides =
+pub covering_judged : (spec : Spec) (c : RawCard) (variables : Variables) (x : NodeRecord) (n : ℕ) → Splitting c spec variables x
+    → node_of x ≡ node_at (model c) n → (b : Bool) → DecidesCovering c variables x b → b ≡ kept spec (model c) (covering_kept n)
+covering_judged spec c variables x n ready e b decides =
     decides spec ready
     ∙ ap (λ (y : Node). keeps_covering (kind_of (model c)) spec (map (move_at (model c)) (span y.move_count y.first_move))) e
 
-module _ (spec : Spec) (c : RawCard) (terms : Terms) (rs : List FormulaRecord) (slots : List (Slot FormulaKey)) (k : Known spec c terms rs slots)
+module _ (spec : Spec) (c : RawCard) (terms : Terms) (k : Known spec c terms)
     (x : NodeRecord) (n : ℕ) (e : node_of x ≡ node_at (model c) n) where
-  pub splitting : n < length c.nodes → Splitting c spec terms.environment terms.system x
+  pub splitting : n < length c.nodes → Splitting c spec terms.variables x
   splitting l = record {
-    environment_is = k.environment_is;
+    sizes = k.variables;
     few_inputs = k.few_inputs;
-    system_is = k.system_is;
     few_replies = k.few_replies;
     unconstrained = k.unconstrained;
     moves = k.moves;
@@ -61,7 +59,7 @@ module _ (spec : Spec) (c : RawCard) (terms : Terms) (rs : List FormulaRecord) (
   }
 
   -- ── rests and steps ──
-  pub prepared : (ms : List Bool) → MarksObligations c terms.safety x ms → Prepared spec c terms.kind rs slots ms n
+  pub prepared : (ms : List Bool) → MarksObligations c terms.safety x ms → Prepared spec c terms.kind terms.records.now terms.slots.now ms n
   prepared ms h =
       let r = k.records in
       let below : terms.safety < length c.formulas = subst (λ (xs : List FormulaRecord). terms.safety < length xs) r k.safety_below in
@@ -73,9 +71,9 @@ module _ (spec : Spec) (c : RawCard) (terms : Terms) (rs : List FormulaRecord) (
         records = r;
         ready = k.ready;
         kinds = k.kinds;
-        members = members_as c.formulas rs (sym r) (obligations spec (model c) n) ms
+        members = members_as c.formulas terms.records.now (sym r) (obligations spec (model c) n) ms
             (subst (λ (L : List Formula). Members c.formulas (spec.safety ∷ L) ms) w (h spec k.labelled below is));
-        listed = listed_as c.formulas rs (sym r) (obligations spec (model c) n)
+        listed = listed_as c.formulas terms.records.now (sym r) (obligations spec (model c) n)
             (subst (λ (L : List Formula). Listed c.formulas (spec.safety ∷ L)) w
             (obligations_listed spec c k.labelled x terms.safety below is));
       }

@@ -18,6 +18,7 @@ use Rattle.rested.specs.declared.key.FormulaKey.{FormulaKey}
 use Rattle.rested.specs.Listing.{Ready}
 use Rattle.card.specs.declared.entries.Kind.{Kind}
 use Rattle.card.specs.Named.{kind_named}
+use Rattle.card.specs.Variables.{HasVariables}
 use Rattle.steps.specs.Sets.{Labelled}
 use Rattle.judged.specs.Judged.{Judges}
 use Rattle.coverings.specs.Coverings.{Ready as Splitting}
@@ -59,31 +60,30 @@ JudgesMoves c kind rs slots ms x r =
 -- the covering of node n, whose record is x, is judged
 abbrev pub JudgesCovering : RawCard → Terms → NodeRecord → ℕ → Result (Unit {0}) CardFault → Type 0
 JudgesCovering c terms x n r =
-    (spec : Spec) → Splitting c spec terms.environment terms.system x → node_of x ≡ node_at (model c) n
+    (spec : Spec) → Splitting c spec terms.variables x → node_of x ≡ node_at (model c) n
     → Judges spec (model c) (covering_kept n ∷ []) r
 
 -- what is known of a card once all before the root has been judged: its entries are of good form, the records are its formulas, the
 -- slots index them, and the terms are those of the card and of the specification
-pub record Known (spec : Spec) (c : RawCard) (terms : Terms) (rs : List FormulaRecord) (slots : List (Slot FormulaKey)) : Type 0 where
+pub record Known (spec : Spec) (c : RawCard) (terms : Terms) : Type 0 where
   pub labelled : Labelled spec c
   pub nodes : (n : ℕ) → n < length c.nodes → NodeFormed (model c) (node_at (model c) n)
   pub moves : (m : ℕ) → m < length c.moves → move_formed spec (move_at (model c) m) ≡ true
-  pub records : rs ≡ c.formulas
-  pub ready : Ready rs slots
+  pub records : terms.records.now ≡ c.formulas
+  pub ready : Ready terms.records.now terms.slots.now
   pub kinds : kind_named terms.kind ≡ kind_of (model c)
-  pub safety_below : terms.safety < length rs
-  pub safety_is : formula_of rs terms.safety ≡ spec.safety
-  pub environment_is : spec.environment ≡ terms.environment
-  pub few_inputs : terms.environment ≤ 16
-  pub system_is : spec.system ≡ terms.system
-  pub few_replies : terms.system ≤ 16
+  pub safety_below : terms.safety < length terms.records.now
+  pub safety_is : formula_of terms.records.now terms.safety ≡ spec.safety
+  pub variables : HasVariables spec terms.variables
+  pub few_inputs : terms.variables.environment ≤ 16
+  pub few_replies : terms.variables.system ≤ 16
   pub unconstrained : spec.third ≡ top
 
 -- node n is judged
-abbrev pub JudgesNode : RawCard → Terms → List FormulaRecord → List (Slot FormulaKey) → ℕ → Result (Unit {0}) CardFault → Type 0
-JudgesNode c terms rs slots n r =
-    (spec : Spec) → Known spec c terms rs slots → n < length c.nodes → Judges spec (model c) (at_node (model c) n) r
+abbrev pub JudgesNode : RawCard → Terms → ℕ → Result (Unit {0}) CardFault → Type 0
+JudgesNode c terms n r =
+    (spec : Spec) → Known spec c terms → n < length c.nodes → Judges spec (model c) (at_node (model c) n) r
 
 -- all nodes are judged
-abbrev pub JudgesNodes : RawCard → Terms → List FormulaRecord → List (Slot FormulaKey) → Result (Unit {0}) CardFault → Type 0
-JudgesNodes c terms rs slots r = (spec : Spec) → Known spec c terms rs slots → Judges spec (model c) (at_nodes (model c)) r
+abbrev pub JudgesNodes : RawCard → Terms → Result (Unit {0}) CardFault → Type 0
+JudgesNodes c terms r = (spec : Spec) → Known spec c terms → Judges spec (model c) (at_nodes (model c)) r

@@ -1,4 +1,4 @@
-// The check of a card.
+//! The check of a card.
 ghost use Rattle.std.specs.Prelude.{◌≡◌, ◌≤◌, length};
 ghost use Rattle.rules.specs.Laws.{game_of};
 ghost use Rattle.rules.specs.Shown.{view};
@@ -7,19 +7,20 @@ ghost use Rattle.records.specs.Raw.{model};
 ghost use Rattle.marking.specs.Checks.{Means, checked_as, checks};
 ghost use Rattle.marking.specs.Roots.{JudgesRoot, enough};
 
-use crate::leaves::root_wrong;
+use crate::leaves::refused;
 use crate::listing::list_formulas;
 use crate::node_by_node::judge_nodes;
 use crate::terms::Terms;
 use crate::verdict::{Marked, verdict_of};
+use card::entries::kind_of;
 use card::source::CardSource;
+use card::variables::Variables;
 use faults::Buffer;
-use faults::card::CardFault;
+use faults::card::{CardFault, CardList, CardReason};
 use index::Slot;
 use records::FormulaRecord;
 use rested::key::FormulaKey;
 use rules::specification::Specification;
-use card::entries::kind_of;
 use steps::kept::root_kept;
 
 /// The index needs 2,048 slots.
@@ -41,7 +42,7 @@ fn judge_root<S: CardSource>(
     ensures { JudgesRoot (S.card source.now) records.now initial result }
 {
     if !root_kept(source, records, initial) {
-        return Err(root_wrong());
+        return Err(refused(CardReason::Root, CardList::Nodes, 0));
     }
     Ok(())
 }
@@ -59,12 +60,16 @@ pub fn check<S: CardSource>(
     enough_slots(slots.len())?;
     let listing = list_formulas(specification, source, slots)?;
     let terms = Terms {
-        environment: specification.environment_count(),
-        system: specification.system_count(),
+        variables: Variables {
+            environment: specification.environment_count(),
+            system: specification.system_count(),
+        },
         kind: kind_of(source),
         safety: listing.places.safety,
+        records: listing.records.as_slice(),
+        slots,
     };
-    judge_root(source, listing.records.as_slice(), listing.places.initial)?;
-    judge_nodes(source, terms, listing.records.as_slice(), slots)?;
+    judge_root(source, terms.records, listing.places.initial)?;
+    judge_nodes(source, &terms)?;
     Ok(verdict_of(source))
 }

@@ -1,4 +1,4 @@
-// Marking a card: is it accepted for a specification, with which verdict and depth, or which condition fails first?
+//! Marking a card: is it accepted for a specification, with which verdict and depth, or which condition fails first?
 #![tactic(auto)]
 
 pub mod check;

@@ -1,4 +1,4 @@
-// What is judged before the root: counts, the form of all entries, equal formulas, and the specification's formulas.
+//! What is judged before the root: counts, the form of all entries, equal formulas, and the specification's formulas.
 ghost use Rattle.std.specs.Prelude.{◌≤◌, length};
 ghost use Rattle.rules.specs.Laws.{game_of};
 ghost use Rattle.rules.specs.Shown.{view};
@@ -7,9 +7,10 @@ ghost use Rattle.tableau.specs.Conditions.{before_root};
 ghost use Rattle.judged.specs.Judged.{Judges};
 ghost use Rattle.marking.specs.Listings.{Lists};
 
-use crate::leaves::formula_missing;
+use crate::leaves::refused;
 use card::source::CardSource;
-use faults::card::CardFault;
+use card::variables::Variables;
+use faults::card::{CardFault, CardList, CardReason};
 use formed::counts::counts_right;
 use formed::entries::entries_formed;
 use formed::equal::index_formulas;
@@ -38,13 +39,15 @@ pub(crate) fn list_formulas<S: CardSource>(
     counts_right(source)?;
     entries_formed(
         source,
-        specification.environment_count(),
-        specification.system_count(),
+        Variables {
+            environment: specification.environment_count(),
+            system: specification.system_count(),
+        },
     )?;
     let records = formulas_of(source);
     index_formulas(records.as_slice(), slots)?;
     let Some(places) = spec_places(specification, slots) else {
-        return Err(formula_missing());
+        return Err(refused(CardReason::Missing, CardList::Formulas, 0));
     };
     Ok(Listing { records, places })
 }

@@ -1,17 +1,13 @@
-// Judging the nodes of a card.
+//! Judging the nodes of a card.
 ghost use Rattle.marking.specs.Nodes.{JudgesCovering, JudgesLabels, JudgesMove, JudgesMoves, JudgesNode, JudgesNodes, JudgesTargets};
 
-use crate::leaves::{
-    covering_wrong, label_kept, label_wrong, rest_missing, step_wrong, target_kept, target_wrong,
-};
+use crate::leaves::{label_kept, refused, target_kept};
 use crate::terms::Terms;
+use card::entries::{Kind, label_of, move_of, node_of, target_of};
 use card::source::CardSource;
 use coverings::covering::covering_kept;
-use faults::card::CardFault;
-use index::Slot;
-use records::{FormulaRecord, NodeRecord};
-use rested::key::FormulaKey;
-use card::entries::{Kind, label_of, move_of, node_of, target_of};
+use faults::card::{CardFault, CardList, CardReason};
+use records::NodeRecord;
 use steps::kept::{rests_by, step_kept};
 use steps::sets::{obligation_marks, rest_marks};
 
@@ -22,7 +18,7 @@ fn judge_labels<S: CardSource>(source: &S, kind: Kind, node: NodeRecord) -> Resu
     let first = node.first_label as usize;
     for k in 0..node.label_count as usize {
         if !label_kept(kind, label_of(source, first + k)) {
-            return Err(label_wrong(first + k));
+            return Err(refused(CardReason::Label, CardList::Labels, first + k));
         }
     }
     Ok(())
@@ -42,7 +38,7 @@ fn judge_targets<S: CardSource>(
     for k in 0..node.move_count as usize {
         let target = target_of(move_of(source, first + k));
         if !target_kept(kind, nodes, n, target) {
-            return Err(target_wrong(first + k));
+            return Err(refused(CardReason::Target, CardList::Moves, first + k));
         }
     }
     Ok(())
@@ -51,21 +47,19 @@ fn judge_targets<S: CardSource>(
 /// Judges the rests and the step of a move, where the marks are those of what its node has to keep: its label and the safety formula.
 fn judge_move<S: CardSource>(
     source: &S,
-    kind: Kind,
-    records: &[FormulaRecord],
-    slots: &[Slot<FormulaKey>],
+    terms: &Terms,
     marks: &[bool; 1024],
     number: usize,
 ) -> Result<(), CardFault>
-    ensures { JudgesMove (S.card source.now) kind records.now slots.now marks.now number result }
+    ensures { JudgesMove (S.card source.now) terms.now.kind terms.now.records.now terms.now.slots.now marks.now number result }
 {
     let taken = move_of(source, number);
-    let memo = rests_by(kind, records, slots, taken);
-    let Some(rests) = rest_marks(records.len(), &memo, marks) else {
-        return Err(rest_missing(number));
+    let memo = rests_by(terms.kind, terms.records, terms.slots, taken);
+    let Some(rests) = rest_marks(terms.records.len(), &memo, marks) else {
+        return Err(refused(CardReason::Missing, CardList::Moves, number));
     };
-    if !step_kept(source, kind, records, &rests, target_of(taken)) {
-        return Err(step_wrong(number));
+    if !step_kept(source, terms.kind, terms.records, &rests, target_of(taken)) {
+        return Err(refused(CardReason::Step, CardList::Moves, number));
     }
     Ok(())
 }
@@ -73,17 +67,15 @@ fn judge_move<S: CardSource>(
 /// Judges the rests and the steps of all moves of a node.
 fn judge_moves<S: CardSource>(
     source: &S,
-    kind: Kind,
-    records: &[FormulaRecord],
-    slots: &[Slot<FormulaKey>],
+    terms: &Terms,
     marks: &[bool; 1024],
     node: NodeRecord,
 ) -> Result<(), CardFault>
-    ensures { JudgesMoves (S.card source.now) kind records.now slots.now marks.now node result }
+    ensures { JudgesMoves (S.card source.now) terms.now.kind terms.now.records.now terms.now.slots.now marks.now node result }
 {
     let first = node.first_move as usize;
     for k in 0..node.move_count as usize {
-        judge_move(source, kind, records, slots, marks, first + k)?;
+        judge_move(source, terms, marks, first + k)?;
     }
     Ok(())
 }
@@ -91,47 +83,36 @@ fn judge_moves<S: CardSource>(
 /// Judges the covering of node n.
 fn judge_covering<S: CardSource>(
     source: &S,
-    terms: Terms,
+    terms: &Terms,
     node: NodeRecord,
     n: usize,
 ) -> Result<(), CardFault>
-    ensures { JudgesCovering (S.card source.now) terms node n result }
+    ensures { JudgesCovering (S.card source.now) terms.now node n result }
 {
-    if !covering_kept(source, terms.environment, terms.system, node) {
-        return Err(covering_wrong(n));
+    if !covering_kept(source, terms.variables, node) {
+        return Err(refused(CardReason::Covering, CardList::Nodes, n));
     }
     Ok(())
 }
 
 /// Judges node n: its label, its covering, the targets of its moves, then move by move the rests and the step.
-fn judge_node<S: CardSource>(
-    source: &S,
-    terms: Terms,
-    records: &[FormulaRecord],
-    slots: &[Slot<FormulaKey>],
-    n: usize,
-) -> Result<(), CardFault>
-    ensures { JudgesNode (S.card source.now) terms records.now slots.now n result }
+fn judge_node<S: CardSource>(source: &S, terms: &Terms, n: usize) -> Result<(), CardFault>
+    ensures { JudgesNode (S.card source.now) terms.now n result }
 {
     let node = node_of(source, n);
     judge_labels(source, terms.kind, node)?;
     judge_covering(source, terms, node, n)?;
     judge_targets(source, terms.kind, source.node_count(), n, node)?;
     let marks = obligation_marks(source, terms.safety, node);
-    judge_moves(source, terms.kind, records, slots, &marks, node)
+    judge_moves(source, terms, &marks, node)
 }
 
 /// Judges all nodes in the order of their numbers, those never reached among them.
-pub(crate) fn judge_nodes<S: CardSource>(
-    source: &S,
-    terms: Terms,
-    records: &[FormulaRecord],
-    slots: &[Slot<FormulaKey>],
-) -> Result<(), CardFault>
-    ensures { JudgesNodes (S.card source.now) terms records.now slots.now result }
+pub(crate) fn judge_nodes<S: CardSource>(source: &S, terms: &Terms) -> Result<(), CardFault>
+    ensures { JudgesNodes (S.card source.now) terms.now result }
 {
     for n in 0..source.node_count() {
-        judge_node(source, terms, records, slots, n)?;
+        judge_node(source, terms, n)?;
     }
     Ok(())
 }

@@ -1,13 +1,13 @@
-// What an accepted card shows.
+//! What an accepted card shows.
 ghost use Rattle.std.specs.Prelude.{◌≡◌};
 ghost use Rattle.tableau.specs.Card.{kind_of};
 ghost use Rattle.tableau.specs.Judge.{verdict_of, depth_of};
 ghost use Rattle.records.specs.Raw.{model};
 ghost use Rattle.marking.specs.Verdicts.{DepthKnown, marked_as, verdict_number};
 
+use card::entries::{Kind, kind_of};
 use card::source::CardSource;
 use depth::depth;
-use card::entries::{Kind, kind_of};
 
 /// Whether the conditions can be kept.
 #[derive(Clone, Copy, PartialEq, Eq, Debug)]

@@ -1,4 +1,4 @@
-use Rattle.std.proofs.Common.{◌≡◌, ℕ, ◌≤◌, length, Ok, sym, ap, ◌∙◌, subst}
+use Rattle.std.proofs.Common.{◌≡◌, ℕ, ◌≤◌, length, Ok, refl, sym, ap, ◌∙◌, subst}
 use Rattle.records.specs.Raw.{model}
 use Rattle.rules.specs.Laws.{game_of}
 use Rattle.rules.specs.Shown.{view}
@@ -65,11 +65,9 @@ returns-in_err-judge_nodes g c =
     let slice = c.as_slice.result.now in
     let q = c.as_slice.ensures ∙ w.records in
     let root = sym (c.in_ok-judge_root.ensures spec w.labelled q (initial_below spec s slots list w slice q) (initial_is spec s slots list w slice q)) in
-    let rs = c.as_slice-2.result.now in
-    let p = c.as_slice-2.ensures ∙ w.records in
-    let k = known_here spec s slots list w rs p c.environment_count.result c.system_count.result c.kind_of.result c.kind_of.ensures
-    (sym c.environment_count.ensures) (subst (λ (m : ℕ). m ≤ 16) (sym c.environment_count.ensures) sound.environment)
-    (sym c.system_count.ensures) (subst (λ (m : ℕ). m ≤ 16) (sym c.system_count.ensures) sound.system) sound.free in
+    let k = known_here spec s slots list w slice q _ refl refl refl c.kind_of.ensures (sym c.environment_count.ensures, sym c.system_count.ensures)
+    (subst (λ (m : ℕ). m ≤ 16) (sym c.environment_count.ensures) sound.environment)
+    (subst (λ (m : ℕ). m ≤ 16) (sym c.system_count.ensures) sound.system) sound.free in
     let r = c.from_residual-in_err-judge_nodes.result in
     let e = c.in_err-judge_nodes.field-0.0 in
     let u : checked_as r ≡ checks n spec (model s) =
@@ -92,11 +90,9 @@ returns g c =
     let slice = c.as_slice.result.now in
     let q = c.as_slice.ensures ∙ w.records in
     let root = sym (c.in_ok-judge_root.ensures spec w.labelled q (initial_below spec s slots list w slice q) (initial_is spec s slots list w slice q)) in
-    let rs = c.as_slice-2.result.now in
-    let p = c.as_slice-2.ensures ∙ w.records in
-    let k = known_here spec s slots list w rs p c.environment_count.result c.system_count.result c.kind_of.result c.kind_of.ensures
-    (sym c.environment_count.ensures) (subst (λ (m : ℕ). m ≤ 16) (sym c.environment_count.ensures) sound.environment)
-    (sym c.system_count.ensures) (subst (λ (m : ℕ). m ≤ 16) (sym c.system_count.ensures) sound.system) sound.free in
+    let k = known_here spec s slots list w slice q _ refl refl refl c.kind_of.ensures (sym c.environment_count.ensures, sym c.system_count.ensures)
+    (subst (λ (m : ℕ). m ≤ 16) (sym c.environment_count.ensures) sound.environment)
+    (subst (λ (m : ℕ). m ≤ 16) (sym c.system_count.ensures) sound.system) sound.free in
     let passed = all_pass spec (model s) (sym (c.in_ok-listing.ensures.judged room)) root (sym (c.in_ok-judge_nodes.ensures spec k)) in
     let m = c.verdict_of.result in
     let u : checked_as (Ok m) ≡ checks n spec (model s) =

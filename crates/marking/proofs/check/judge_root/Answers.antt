@@ -8,7 +8,7 @@ use Rattle.marking.proofs.check.judge_root.Goals as goal
 pub returns-then-not-root_kept : goal.returns-then-not-root_kept
 returns-then-not-root_kept g c spec known e l i =
     let s = g.S.CardSource.card c.args.source.now in
-    refused c.root_wrong.result _ c.root_wrong.ensures
+    refused c.refused.result _ c.refused.ensures
     ∙ sym (judged_fail (kept spec (model s)) fault root_kept [] (sym (c.root_kept.ensures spec known e l i) ∙ c.if-not-root_kept.true))
 
 pub returns : goal.returns

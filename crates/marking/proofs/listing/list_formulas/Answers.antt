@@ -34,7 +34,7 @@ returns-in_err-entries_formed g c =
     record {
       judged = λ l. handed e r c.from_residual-in_err-entries_formed.ensures.1
           ∙ sym (forms_fail spec s counted (fault_of e)
-          (sym (c.in_err-entries_formed.ensures spec (sym c.environment_count.ensures) (sym c.system_count.ensures))));
+          (sym (c.in_err-entries_formed.ensures spec (sym c.environment_count.ensures, sym c.system_count.ensures))));
       listed = λ l. MatchResult-from_err r _ _ c.from_residual-in_err-entries_formed.ensures.0 (λ y. tt);
     }
 
@@ -50,7 +50,7 @@ returns-in_err-index_formulas g c =
     let e = c.in_err-index_formulas.field-0.0 in
     let r = c.from_residual-in_err-index_formulas.result in
     let counted = sym (c.in_ok-counts_right.ensures spec) in
-    let formed = sym (c.in_ok-entries_formed.ensures spec (sym c.environment_count.ensures) (sym c.system_count.ensures)) in
+    let formed = sym (c.in_ok-entries_formed.ensures spec (sym c.environment_count.ensures, sym c.system_count.ensures)) in
     let slice = c.as_slice.result.now in
     let q = slice_is spec s counted formed slice (records_of c.formulas_of-records.result) c.as_slice.ensures c.formulas_of-records.ensures in
     let few : length slice ≤ 1024 = omega (arith, ap length q, few_formulas spec s counted formed) in
@@ -66,7 +66,7 @@ returns-in_default g c =
     let s = g.S.CardSource.card c.args.source.now in
     let spec = game_of (view c.args.specification.now) in
     let counted = sym (c.in_ok-counts_right.ensures spec) in
-    let formed = sym (c.in_ok-entries_formed.ensures spec (sym c.environment_count.ensures) (sym c.system_count.ensures)) in
+    let formed = sym (c.in_ok-entries_formed.ensures spec (sym c.environment_count.ensures, sym c.system_count.ensures)) in
     let slice = c.as_slice.result.now in
     let q = slice_is spec s counted formed slice (records_of c.formulas_of-records.result) c.as_slice.ensures c.formulas_of-records.ensures in
     let few : length slice ≤ 1024 = omega (arith, ap length q, few_formulas spec s counted formed) in
@@ -74,7 +74,7 @@ returns-in_default g c =
       judged = λ l.
           let new = sym (news_as spec s slice q) ∙ sym (c.in_ok-index_formulas.ensures.judged few l spec (model s) (ap (map entry_of) (sym q))) in
           let ready = ready_for spec s counted formed new slice c.index_formulas.new.slots q (c.in_ok-index_formulas.ensures.indexed few l) in
-          refused c.formula_missing.result _ c.formula_missing.ensures
+          refused c.refused.result _ c.refused.ensures
           ∙ sym (unlisted spec s counted formed new c.spec_places.result c.in_default.not-Some (c.spec_places.ensures s.formulas ready));
       listed = λ l. tt;
     }
@@ -84,7 +84,7 @@ returns g c =
     let s = g.S.CardSource.card c.args.source.now in
     let spec = game_of (view c.args.specification.now) in
     let counted = sym (c.in_ok-counts_right.ensures spec) in
-    let formed = sym (c.in_ok-entries_formed.ensures spec (sym c.environment_count.ensures) (sym c.system_count.ensures)) in
+    let formed = sym (c.in_ok-entries_formed.ensures spec (sym c.environment_count.ensures, sym c.system_count.ensures)) in
     let slice = c.as_slice.result.now in
     let q = slice_is spec s counted formed slice (records_of c.formulas_of-records.result) c.as_slice.ensures c.formulas_of-records.ensures in
     let few : length slice ≤ 1024 = omega (arith, ap length q, few_formulas spec s counted formed) in

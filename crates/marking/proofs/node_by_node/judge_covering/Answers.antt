@@ -10,9 +10,9 @@ pub returns-then-not-covering_kept : goal.returns-then-not-covering_kept
 returns-then-not-covering_kept g c spec ready e =
     let s = g.S.CardSource.card c.args.source.now in
     let n = c.args.n in
-    refused c.covering_wrong.result _ c.covering_wrong.ensures
+    refused c.refused.result _ c.refused.ensures
     ∙ sym (judged_fail (kept spec (model s)) fault (covering_kept n) []
-    (sym (covering_judged spec s c.args.terms.environment c.args.terms.system c.args.node n ready e c.covering_kept.result c.covering_kept.ensures)
+    (sym (covering_judged spec s c.args.terms.now.variables c.args.node n ready e c.covering_kept.result c.covering_kept.ensures)
     ∙ c.if-not-covering_kept.true))
 
 pub returns : goal.returns
@@ -20,5 +20,5 @@ returns g c spec ready e =
     let s = g.S.CardSource.card c.args.source.now in
     let n = c.args.n in
     sym (judged_pass (kept spec (model s)) fault (covering_kept n) []
-    (sym (covering_judged spec s c.args.terms.environment c.args.terms.system c.args.node n ready e c.covering_kept.result c.covering_kept.ensures)
+    (sym (covering_judged spec s c.args.terms.now.variables c.args.node n ready e c.covering_kept.result c.covering_kept.ensures)
     ∙ c.if-not-covering_kept.false))

@@ -15,7 +15,7 @@ returns-then-not-label_kept g c spec known kinds =
     let s = g.S.CardSource.card c.args.source.now in
     let first = c.args.node.first_label in
     let k = c.loop-k.k in
-    refused c.label_wrong.result _ c.label_wrong.ensures
+    refused c.refused.result _ c.refused.ensures
     ∙ sym (walk_fail (kept spec (model s)) fault label_kept c.args.node.label_count first k c.loop-k-test.true
     (sym (label_judged spec s known c.args.kind kinds (first + k) c.label_of.result c.label_of.ensures)
     ∙ sym c.label_kept.ensures ∙ c.if-not-label_kept.true))

@@ -12,6 +12,6 @@ use Rattle.marking.proofs.node_by_node.judge_moves.Given as goal
 abbrev pub invariant-loop-k : goal.invariant-loop-k
 invariant-loop-k g l =
     let c = g.S.CardSource.card l.source in
-    (spec : Spec) (n : ℕ) → Prepared spec c l.kind l.records l.slots l.marks n
+    (spec : Spec) (n : ℕ) → Prepared spec c l.terms.kind l.terms.records.now l.terms.slots.now l.marks n
     → grouped (kept spec (model c)) fault (at_move n) l.k-end l.first l.k
     ≡ judged_by spec (model c) (concat_map (at_move n) (span l.k-end l.first))

@@ -26,7 +26,7 @@ returns-in_err-judge_covering g c spec k l =
     let n = c.args.n in
     let e = c.in_err-judge_covering.field-0.0 in
     let y = node_of x in
-    let ready = splitting spec s c.args.terms c.args.records.now c.args.slots.now k x n c.node_of-node.ensures l in
+    let ready = splitting spec s c.args.terms.now k x n c.node_of-node.ensures l in
     handed e c.from_residual-in_err-judge_covering.result c.from_residual-in_err-judge_covering.ensures.1
     ∙ sym (group_pass (kept spec (model s)) fault (labels_by y) ((covering_kept n ∷ []) ++ (targets_by n y ++ moves_by n y))
     (sym (c.in_ok-judge_labels.ensures spec k.labelled k.kinds))
@@ -41,7 +41,7 @@ returns-in_err-judge_targets g c spec k l =
     let n = c.args.n in
     let e = c.in_err-judge_targets.field-0.0 in
     let y = node_of x in
-    let ready = splitting spec s c.args.terms c.args.records.now c.args.slots.now k x n c.node_of-node.ensures l in
+    let ready = splitting spec s c.args.terms.now k x n c.node_of-node.ensures l in
     handed e c.from_residual-in_err-judge_targets.result c.from_residual-in_err-judge_targets.ensures.1
     ∙ sym (group_pass (kept spec (model s)) fault (labels_by y) ((covering_kept n ∷ []) ++ (targets_by n y ++ moves_by n y))
     (sym (c.in_ok-judge_labels.ensures spec k.labelled k.kinds))
@@ -57,8 +57,8 @@ returns g c spec k l =
     let x = c.node_of-node.result in
     let n = c.args.n in
     let y = node_of x in
-    let ready = splitting spec s c.args.terms c.args.records.now c.args.slots.now k x n c.node_of-node.ensures l in
-    let p = prepared spec s c.args.terms c.args.records.now c.args.slots.now k x n c.node_of-node.ensures c.obligation_marks-marks.result
+    let ready = splitting spec s c.args.terms.now k x n c.node_of-node.ensures l in
+    let p = prepared spec s c.args.terms.now k x n c.node_of-node.ensures c.obligation_marks-marks.result
     c.obligation_marks-marks.ensures in
     c.judge_moves.ensures spec n p
     ∙ sym (group_pass (kept spec (model s)) fault (labels_by y) ((covering_kept n ∷ []) ++ (targets_by n y ++ moves_by n y))

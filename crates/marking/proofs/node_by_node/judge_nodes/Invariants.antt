@@ -11,5 +11,5 @@ use Rattle.marking.proofs.node_by_node.judge_nodes.Given as goal
 abbrev pub invariant-loop-n : goal.invariant-loop-n
 invariant-loop-n g l =
     let c = g.S.CardSource.card l.source in
-    (spec : Spec) → Known spec c l.terms l.records l.slots
+    (spec : Spec) → Known spec c l.terms
     → grouped (kept spec (model c)) fault (at_node (model c)) (length (model c).nodes) 0 l.n ≡ judged_by spec (model c) (at_nodes (model c))

@@ -17,7 +17,7 @@ returns-then-not-target_kept g c spec nodes kinds =
     let first = c.args.node.first_move in
     let k = c.loop-k.k in
     let n = c.args.n in
-    refused c.target_wrong.result _ c.target_wrong.ensures
+    refused c.refused.result _ c.refused.ensures
     ∙ sym (walk_fail (kept spec (model s)) fault (target_kept n) c.args.node.move_count first k c.loop-k-test.true
     (sym (target_judged spec s c.args.kind kinds c.args.nodes nodes n (first + k) c.move_of.result c.move_of.ensures
     (target_named c.target_of-target.result) c.target_of-target.ensures)
