@@ -50,6 +50,6 @@ examines names formulas records text c =
 
 -- an answer of the code in these terms
 abbrev pub examined_as : Result Examined MarkFault → Result Passed Refusal
-examined_as (Ok e) = Ok (record { environment = e.environment; system = e.system; marked = marked_as e.marked })
+examined_as (Ok e) = Ok (record { environment = e.variables.environment; system = e.variables.system; marked = marked_as e.marked })
 examined_as (Err (Text t)) = Err (bad_text t)
 examined_as (Err (Card f)) = Err (bad_card (fault_of f))

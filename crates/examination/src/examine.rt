@@ -1,9 +1,10 @@
-// Examining a text and a card.
+//! Examining a text and a card.
 ghost use Rattle.std.specs.Prelude.{◌≡◌, length};
 ghost use Rattle.examination.specs.Examined.{enough_slots, examined_as, examines};
 
 use crate::fault::MarkFault;
 use card::source::CardSource;
+use card::variables::Variables;
 use faults::Buffer;
 use faults::card::CardFault;
 use formulas::Formula;
@@ -17,8 +18,7 @@ use rules::read::read;
 /// How many variables of each kind the text's specification has, and the verdict and the depth of the card.
 #[derive(Clone, Copy)]
 pub struct Examined {
-    pub environment: usize,
-    pub system: usize,
+    pub variables: Variables,
     pub marked: Marked,
 }
 
@@ -47,8 +47,10 @@ pub fn examine<S: CardSource>(
     let specification = read(text, names, formulas)?;
     let marked = check(&specification, source, records)?;
     Ok(Examined {
-        environment: specification.environment_count(),
-        system: specification.system_count(),
+        variables: Variables {
+            environment: specification.environment_count(),
+            system: specification.system_count(),
+        },
         marked,
     })
 }

@@ -1,4 +1,4 @@
-// What a text and a card may be refused for.
+//! What a text and a card may be refused for.
 ghost use Rattle.std.specs.Prelude.{◌≡◌};
 ghost use Rattle.examination.specs.declared.fault.MarkFault.TheVariants.{Card};
 ghost use Rattle.examination.specs.Faults.{from_text, mark_fault_number, mark_fault_layer, mark_fault_list, mark_fault_place};
