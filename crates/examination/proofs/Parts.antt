@@ -76,6 +76,6 @@ module _ (n m k : ℕ) (text : List ℕ) (c : RawCard) (enough : Ok tt ≡ enoug
 
     pub passed : (a : Marked) → Ok (marked_as a) ≡ checks k (game_of (view s)) (model c)
         → (environment : ℕ) → environment ≡ (game_of (view s)).environment → (system : ℕ) → system ≡ (game_of (view s)).system
-        → examined_as (Ok (record { environment = environment; system = system; marked = a })) ≡ examines n m k text c
+        → examined_as (Ok (record { variables = record { environment = environment; system = system }; marked = a })) ≡ examines n m k text c
     passed a e environment p system q =
         (λ i. Ok (record { environment = p i; system = q i; marked = marked_as a })) ∙ ap (sized (view s)) (e ∙ checked) ∙ sym from_view
