@@ -1,10 +1,9 @@
 //! Cubes: sets of valuations of variables. Bit i of a valuation is the value of variable i.
-ghost use Rattle.std.specs.Prelude.{◌≡◌, ◌<◌};
-ghost use Rattle.temporal.specs.Game.{bit};
+ghost use Rattle.std.specs.Prelude.{◌≡◌};
 ghost use Rattle.records.specs.Raw.{move_of};
 ghost use Rattle.coverings.specs.Cubes.{cube_of, column, literal_word, literal_of, low_word};
 
-use records::MoveRecord;
+use records::{MoveRecord, bit};
 
 /// The valuations that agree with the values on the variables of the mask.
 #[derive(Clone, Copy)]
@@ -36,16 +35,8 @@ pub(crate) fn cube_of(side: Side, x: MoveRecord) -> Cube
     }
 }
 
-/// Bit i of 16 bits.
-fn bit_of(bits: u16, i: u16) -> bool
-    requires { i < 6 }
-    ensures { result ≡ bit bits i }
-{
-    (bits >> i) % 2 == 1
-}
-
 /// The word whose bit l is the value of variable i, one of the low six, in the valuation l.
-fn column_of(i: u16) -> u64
+fn column_of(i: u8) -> u64
     ensures { result ≡ column i }
 {
     match i {
@@ -59,7 +50,7 @@ fn column_of(i: u16) -> u64
 }
 
 /// The word of the valuations of the low six variables in which variable i has the value, or of all if it is not fixed.
-fn literal_word(i: u16, fixed: bool, value: bool) -> u64
+fn literal_word(i: u8, fixed: bool, value: bool) -> u64
     ensures { result ≡ literal_word i fixed value }
 {
     if !fixed {
@@ -72,11 +63,10 @@ fn literal_word(i: u16, fixed: bool, value: bool) -> u64
 }
 
 /// The same for what a cube fixes of variable i.
-fn literal_of(cube: Cube, i: u16) -> u64
-    requires { i < 6 }
+fn literal_of(cube: Cube, i: u8) -> u64
     ensures { result ≡ literal_of cube i }
 {
-    literal_word(i, bit_of(cube.mask, i), bit_of(cube.values, i))
+    literal_word(i, bit(cube.mask, i), bit(cube.values, i))
 }
 
 /// The word of the valuations of the low six variables that agree with a cube.

@@ -17,6 +17,7 @@ ghost use Rattle.formed.specs.Tested.{formula_tested, label_tested, node_tested,
 use card::entry::Entry;
 use card::variables::Variables;
 use faults::card::CardList;
+use formulas::Formula;
 use records::{FormulaRecord, MoveRecord, NodeRecord};
 
 /// What the form of entries depends on: the variables of a specification, and the lengths of a card's lists.
@@ -105,24 +106,24 @@ fn range_formed(i: usize, f: FormulaRecord) -> bool
 fn place_formed(i: usize, f: FormulaRecord) -> bool
     ensures { result ≡ place_formed i (entry_of f) }
 {
-    2 <= i || f.kind as usize == i
+    match i {
+        0 => matches!(Formula::try_from(f), Ok(Formula::False)),
+        1 => matches!(Formula::try_from(f), Ok(Formula::True)),
+        _ => true,
+    }
 }
 
 /// The form of a formula by its kind.
 fn kind_formed(i: usize, f: FormulaRecord, variables: Variables) -> bool
     ensures { result ≡ kind_formed (sized variables) i (entry_of f) }
 {
-    match f.kind {
-        0 => constant_formed(f),
-        1 => constant_formed(f),
-        2 => literal_formed(f, variables),
-        3 => literal_formed(f, variables),
-        4 => pair_formed(i, f),
-        5 => pair_formed(i, f),
-        6 => next_formed(i, f),
-        7 => range_formed(i, f),
-        8 => range_formed(i, f),
-        _ => false,
+    match Formula::try_from(f) {
+        Ok(Formula::False | Formula::True) => constant_formed(f),
+        Ok(Formula::Variable(_) | Formula::Negated(_)) => literal_formed(f, variables),
+        Ok(Formula::And(..) | Formula::Or(..)) => pair_formed(i, f),
+        Ok(Formula::Next(..)) => next_formed(i, f),
+        Ok(Formula::Always(..) | Formula::Eventually(..)) => range_formed(i, f),
+        Err(_) => false,
     }
 }
 
