@@ -8,7 +8,7 @@ use card::variables::Variables;
 use faults::Buffer;
 use faults::card::CardFault;
 use formulas::Formula;
-use index::Slot;
+use index::{Slot, enough};
 use marking::check::check;
 use marking::verdict::Marked;
 use names::Name;
@@ -22,14 +22,19 @@ pub struct Examined {
     pub marked: Marked,
 }
 
-/// Each index needs 2,048 slots; that is judged before anything else.
-fn enough_slots(names: usize, formulas: usize, records: usize) -> Result<(), CardFault>
-    ensures { result ≡ enough_slots names formulas records }
+/// Refuses an index that is too short; that is judged before anything else.
+fn enough_slots(
+    names: &[Slot<Name>],
+    formulas: &[Slot<Formula>],
+    records: &[Slot<FormulaKey>],
+) -> Result<(), CardFault>
+    ensures { result ≡ enough_slots (length names.now) (length formulas.now) (length records.now) }
 {
-    if names < 2_048 || formulas < 2_048 || records < 2_048 {
-        return Err(CardFault::Short(Buffer::Index));
+    if enough(names) && enough(formulas) && enough(records) {
+        Ok(())
+    } else {
+        Err(CardFault::Short(Buffer::Index))
     }
-    Ok(())
 }
 
 /// Reads the text, and checks the card for its specification. The three arrays of slots, at least 2,048 each, are memory for indexes of
@@ -43,7 +48,7 @@ pub fn examine<S: CardSource>(
 ) -> Result<Examined, MarkFault>
     ensures { examined_as result ≡ examines (length names.old) (length formulas.old) (length records.old) text.now (S.card source.now) }
 {
-    enough_slots(names.len(), formulas.len(), records.len())?;
+    enough_slots(names, formulas, records)?;
     let specification = read(text, names, formulas)?;
     let marked = check(&specification, source, records)?;
     Ok(Examined {

@@ -5,7 +5,7 @@ ghost use Rattle.rules.specs.Shown.{view};
 ghost use Rattle.tableau.specs.Conditions.{at_root};
 ghost use Rattle.records.specs.Raw.{model};
 ghost use Rattle.marking.specs.Checks.{Means, checked_as, checks};
-ghost use Rattle.marking.specs.Roots.{JudgesRoot, enough};
+ghost use Rattle.marking.specs.Roots.{JudgesRoot, enough as enough_for};
 
 use crate::leaves::refused;
 use crate::listing::list_formulas;
@@ -17,17 +17,17 @@ use card::source::CardSource;
 use card::variables::Variables;
 use faults::Buffer;
 use faults::card::{CardFault, CardList, CardReason};
-use index::Slot;
+use index::{Slot, enough};
 use records::FormulaRecord;
 use rested::key::FormulaKey;
 use rules::specification::Specification;
 use steps::kept::root_kept;
 
-/// The index needs 2,048 slots.
-fn enough_slots(slots: usize) -> Result<(), Buffer>
-    ensures { result ≡ enough slots }
+/// Refuses an index that is too short.
+fn enough_slots(slots: &[Slot<FormulaKey>]) -> Result<(), Buffer>
+    ensures { result ≡ enough_for (length slots.now) }
 {
-    if slots < 2_048 {
+    if !enough(slots) {
         return Err(Buffer::Index);
     }
     Ok(())
@@ -57,7 +57,7 @@ pub fn check<S: CardSource>(
     ensures value { checked_as result ≡ checks (length slots.old) (game_of (view specification.now)) (model (S.card source.now)) }
     ensures meaning { 2048 ≤ length slots.old → Means (game_of (view specification.now)) (model (S.card source.now)) (checked_as result) }
 {
-    enough_slots(slots.len())?;
+    enough_slots(slots)?;
     let listing = list_formulas(specification, source, slots)?;
     let terms = Terms {
         variables: Variables {
