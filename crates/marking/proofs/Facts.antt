@@ -154,9 +154,9 @@ module _ (spec : Spec) (c : RawCard) where
         past_news = past_forms ∙ group_pass (kept spec (model c)) fault (news spec (model c)) (spec_listed ∷ []) new
 
         -- a formula of the specification is not listed
-        pub unlisted : (r : Option Places) → ((p : Places) → r ≡ Some p → ⊥) → Located spec c.formulas r → called ≡ Err (fault_at 11 0 0)
-        unlisted None n h = past_news ∙ judged_fail (kept spec (model c)) fault spec_listed [] h
-        unlisted (Some p) n h = absurd (n p refl)
+        pub unlisted : (r : Option Places) → r ≡ None → Located spec c.formulas r → called ≡ Err (fault_at 11 0 0)
+        unlisted r n h =
+            past_news ∙ judged_fail (kept spec (model c)) fault spec_listed [] (subst (Located spec c.formulas) n h)
 
         -- all are
         pub all_listed : (p : Places) → Located spec c.formulas (Some p) → called ≡ Ok tt

@@ -1,5 +1,6 @@
 -- Conditions at single places, from what the code asked and computed.
 use Rattle.std.proofs.Common.{◌≡◌, ℕ, ◌<◌, Bool, true, false, not, eqb, List, [], ◌∷◌, length, IsErrAnd, Some, None, Ok, Err, Option, Result, sym, refl, ap, ◌∙◌, subst, arith, eq-eqb, eqb-true}
+use Rattle.std.specs.Option.{ok_or}
 use Rattle.temporal.specs.Formula.{Formula, bot, Reading, same}
 use Rattle.temporal.specs.Game.{Spec}
 use Rattle.temporal.proofs.Same.{same_sound}
@@ -35,6 +36,17 @@ use Rattle.marking.specs.Nodes.{Prepared}
 pub handed : {A : Type 0} (e : CardFault) (r : Result A CardFault) → IsErrAnd r (λ y. y ≡ e) → judgment r ≡ Err (fault_of e)
 handed e (Ok x) h = absurd h
 handed e (Err y) h = ap (λ f. Err (fault_of f)) h
+
+-- what `ok_or` passes on: the value, or the refusal where there is none
+pub none_refused : {A : Type 0} (o : Option A) (r : Result A CardFault) (u e : CardFault) → r ≡ ok_or o u → r ≡ Err e → (o ≡ None) × (e ≡ u)
+none_refused {A} None r u e p q = let h : ◌≡◌ {A = Result A CardFault} (Err e) (Err u) = sym q ∙ p in let k : e ≡ u = cc in (refl, k)
+none_refused {A} (Some x) r u e p q =
+    let h : ◌≡◌ {A = Result A CardFault} (Ok x) (Err e) = sym p ∙ q in let z : ◌≡◌ {A = ℕ} 0 1 = cc in absurd (omega arith)
+
+pub some_passed : {A : Type 0} (o : Option A) (r : Result A CardFault) (u : CardFault) (x : A) → r ≡ ok_or o u → r ≡ Ok x → o ≡ Some x
+some_passed {A} None r u x p q =
+    let h : ◌≡◌ {A = Result A CardFault} (Err u) (Ok x) = sym p ∙ q in let z : ◌≡◌ {A = ℕ} 0 1 = cc in absurd (omega arith)
+some_passed {A} (Some y) r u x p q = let h : ◌≡◌ {A = Result A CardFault} (Ok y) (Ok x) = sym p ∙ q in let k : y ≡ x = cc in ap Some k
 
 -- a refusal by its fault
 pub refused : (e f : CardFault) → e ≡ f → ◌≡◌ {A = Result (Unit {0}) Fault} (Err (fault_of e)) (Err (fault_of f))
@@ -92,10 +104,10 @@ module _ (spec : Spec) (c : RawCard) (kind : Kind) (rs : List FormulaRecord) (sl
       (listed_as rs c.formulas e O p.listed) (members_as rs c.formulas e O ms p.members)
       (subst (λ (xs : List FormulaRecord). AllRested R xs memo) e at_rs)
 
-  pub rests_refused : (r : Option (List Bool)) → ((out : List Bool) → r ≡ Some out → ⊥) → RestsOf c.formulas R O r
+  pub rests_refused : (r : Option (List Bool)) → r ≡ None → RestsOf c.formulas R O r
       → judged_by spec (model c) (at_move n i) ≡ Err (fault_at 11 3 i)
-  rests_refused None none h = judged_fail (kept spec (model c)) fault (rests_kept n i) (step_kept n i ∷ []) h
-  rests_refused (Some out) none h = absurd (none out refl)
+  rests_refused r none h =
+      judged_fail (kept spec (model c)) fault (rests_kept n i) (step_kept n i ∷ []) (subst (RestsOf c.formulas R O) none h)
 
   -- the step, once the rests are there
   module _ (out : List Bool) (h : RestsOf c.formulas R O (Some out)) (t : Target) (to : t ≡ target_of m.target) (b : Bool)

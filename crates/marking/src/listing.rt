@@ -46,8 +46,7 @@ pub(crate) fn list_formulas<S: CardSource>(
     )?;
     let records = formulas_of(source);
     index_formulas(records.as_slice(), slots)?;
-    let Some(places) = spec_places(specification, slots) else {
-        return Err(refused(CardReason::Missing, CardList::Formulas, 0));
-    };
+    let unlisted = refused(CardReason::Missing, CardList::Formulas, 0);
+    let places = spec_places(specification, slots).ok_or(unlisted)?;
     Ok(Listing { records, places })
 }

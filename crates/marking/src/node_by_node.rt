@@ -55,9 +55,8 @@ fn judge_move<S: CardSource>(
 {
     let taken = move_of(source, number);
     let memo = rests_by(terms.kind, terms.records, terms.slots, taken);
-    let Some(rests) = rest_marks(terms.records.len(), &memo, marks) else {
-        return Err(refused(CardReason::Missing, CardList::Moves, number));
-    };
+    let unlisted = refused(CardReason::Missing, CardList::Moves, number);
+    let rests = rest_marks(terms.records.len(), &memo, marks).ok_or(unlisted)?;
     if !step_kept(source, terms.kind, terms.records, &rests, target_of(taken)) {
         return Err(refused(CardReason::Step, CardList::Moves, number));
     }
