@@ -79,10 +79,10 @@ pub record Known (spec : Spec) (c : RawCard) (terms : Terms) : Type 0 where
   pub few_replies : terms.variables.system ≤ 16
   pub unconstrained : spec.third ≡ top
 
--- node n is judged
-abbrev pub JudgesNode : RawCard → Terms → ℕ → Result (Unit {0}) CardFault → Type 0
-JudgesNode c terms n r =
-    (spec : Spec) → Known spec c terms → n < length c.nodes → Judges spec (model c) (at_node (model c) n) r
+-- node n, whose record is x, is judged
+abbrev pub JudgesNode : RawCard → Terms → NodeRecord → ℕ → Result (Unit {0}) CardFault → Type 0
+JudgesNode c terms x n r =
+    (spec : Spec) → Known spec c terms → n < length c.nodes → node_of x ≡ node_at (model c) n → Judges spec (model c) (at_node (model c) n) r
 
 -- all nodes are judged
 abbrev pub JudgesNodes : RawCard → Terms → Result (Unit {0}) CardFault → Type 0

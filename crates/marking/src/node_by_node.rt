@@ -3,7 +3,8 @@ ghost use Rattle.marking.specs.Nodes.{JudgesCovering, JudgesLabels, JudgesMove, 
 
 use crate::leaves::{label_kept, refused, target_kept};
 use crate::terms::Terms;
-use card::entries::{Kind, label_of, move_of, node_of, target_of};
+use card::entries::{Kind, label_of, move_of, target_of};
+use card::entry::all_entries;
 use card::source::CardSource;
 use coverings::covering::covering_kept;
 use faults::card::{CardFault, CardList, CardReason};
@@ -94,11 +95,15 @@ fn judge_covering<S: CardSource>(
     Ok(())
 }
 
-/// Judges node n: its label, its covering, the targets of its moves, then move by move the rests and the step.
-fn judge_node<S: CardSource>(source: &S, terms: &Terms, n: usize) -> Result<(), CardFault>
-    ensures { JudgesNode (S.card source.now) terms.now n result }
+/// Judges node n, which is this record: its label, its covering, the targets of its moves, then move by move the rests and the step.
+fn judge_node<S: CardSource>(
+    source: &S,
+    terms: &Terms,
+    node: NodeRecord,
+    n: usize,
+) -> Result<(), CardFault>
+    ensures { JudgesNode (S.card source.now) terms.now node n result }
 {
-    let node = node_of(source, n);
     judge_labels(source, terms.kind, node)?;
     judge_covering(source, terms, node, n)?;
     judge_targets(source, terms.kind, source.node_count(), n, node)?;
@@ -110,8 +115,8 @@ fn judge_node<S: CardSource>(source: &S, terms: &Terms, n: usize) -> Result<(), 
 pub(crate) fn judge_nodes<S: CardSource>(source: &S, terms: &Terms) -> Result<(), CardFault>
     ensures { JudgesNodes (S.card source.now) terms.now result }
 {
-    for n in 0..source.node_count() {
-        judge_node(source, terms, n)?;
+    for (n, node) in all_entries::<S, NodeRecord>(source).enumerate() {
+        judge_node(source, terms, node, n)?;
     }
     Ok(())
 }
