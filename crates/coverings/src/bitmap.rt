@@ -81,6 +81,7 @@ fn mark_cube(words: &mut [u64; 1024], high: usize, cube: Cube) -> bool
     let fixed = (cube.values / 64) as usize;
     let free = free_high(high, cube);
     let mut rest = free;
+    // The subsets of a set of bits, from the largest on, stand in no range.
     'subsets: loop {
         if !mark_word(words, fixed | rest, word) {
             return false;

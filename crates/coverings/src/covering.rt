@@ -16,6 +16,7 @@ fn covers_once<S: CardSource>(source: &S, side: Side, variables: usize, node: No
     ensures { DecidesOnce side (S.card source.now) variables node result }
 {
     let mut marks = Bitmap::new(variables);
+    // A source is asked for entries by number; there is no slice to go over.
     for k in 0..node.move_count as usize {
         let x = move_of(source, node.first_move as usize + k);
         if !marks.mark(cube_of(side, x)) {
@@ -37,6 +38,7 @@ fn inputs_alike<S: CardSource>(source: &S, node: NodeRecord) -> bool
     ensures { result ≡ alike (S.card source.now) node }
 {
     let first = move_of(source, node.first_move as usize);
+    // A source is asked for entries by number; there is no slice to go over.
     for k in 0..node.move_count as usize {
         let x = move_of(source, node.first_move as usize + k);
         if !same_input(first, x) {

@@ -13,6 +13,7 @@ pub fn add_label<S: CardSource>(source: &S, node: NodeRecord, marks: &mut [bool;
     ensures { AddsLabel (S.card source.now) node marks.old marks.new }
 {
     let first = node.first_label as usize;
+    // A source is asked for entries by number; there is no slice to go over.
     for k in 0..node.label_count as usize {
         let formula = label_of(source, first + k);
         set_mark(marks, formula as usize);
@@ -56,6 +57,7 @@ pub fn rest_marks(
     ensures { TakesRests count memo.now marks.now result }
 {
     let mut rests = [false; 1024];
+    // Two tables are read at one number, and the number is what is tested; a zip of both says no more.
     for i in 0..count.min(1024) {
         if is_marked(marks, i) {
             let rest = memo[i]?;
