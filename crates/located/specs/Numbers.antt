@@ -7,7 +7,6 @@ use Rattle.formulas.specs.declared.Formula.TheVariants as entry
 use Rattle.formulas.specs.Trees.{trees, ordered}
 use Rattle.index.specs.declared.Slot.{Slot}
 use Rattle.records.specs.declared.FormulaRecord.{FormulaRecord}
-use Rattle.records.specs.Kinds.{recorded}
 use Rattle.records.specs.Table.{formulas_of}
 use Rattle.rested.specs.declared.key.FormulaKey.{FormulaKey}
 use Rattle.rested.specs.Listing.{Ready}
@@ -24,10 +23,6 @@ renumbered numbers (entry.Or a b) = entry.Or (slice_index numbers a) (slice_inde
 renumbered numbers (entry.Next n a) = entry.Next n (slice_index numbers a)
 renumbered numbers (entry.Always n m a) = entry.Always n m (slice_index numbers a)
 renumbered numbers (entry.Eventually n m a) = entry.Eventually n m (slice_index numbers a)
-
--- an entry as a record of a card, its parts by the numbers that they have there
-abbrev pub record_of : List ℕ → Formula → FormulaRecord
-record_of numbers e = recorded (renumbered numbers e)
 
 -- the first n formulas of the entries have these numbers in the list of records
 abbrev pub NumberedBelow : ℕ → List Formula → List FormulaRecord → List ℕ → Type 0

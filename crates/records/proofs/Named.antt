@@ -72,21 +72,3 @@ module _ (r : FormulaRecord) where
       go (suc (suc (suc (suc (suc (suc (suc (suc (suc k))))))))) h =
           let same : named r ≡ Err (record { 0 = r.kind }) = no_kind r.kind _ _ _ _ _ _ _ _ _ _ (omega arith) in
           absurd (cc)
-
-  pub unknown_is : (u : UnknownKind) → named r ≡ Err u → 9 ≤ r.kind
-  unknown_is u is = go r.kind refl
-    where
-      known : (x : Formula) (k : ℕ) → r.kind ≡ k → as_kind k ≡ Ok x → 9 ≤ r.kind
-      known x k h w = let same : named r ≡ as_kind k = ap as_kind h in absurd (cc)
-
-      go : (k : ℕ) → r.kind ≡ k → 9 ≤ r.kind
-      go zero h = known entry.False 0 h refl
-      go (suc zero) h = known entry.True 1 h refl
-      go (suc (suc zero)) h = known (entry.Variable r.variable) 2 h refl
-      go (suc (suc (suc zero))) h = known (entry.Negated r.variable) 3 h refl
-      go (suc (suc (suc (suc zero)))) h = known (entry.And r.a r.b) 4 h refl
-      go (suc (suc (suc (suc (suc zero))))) h = known (entry.Or r.a r.b) 5 h refl
-      go (suc (suc (suc (suc (suc (suc zero)))))) h = known (entry.Next r.n r.a) 6 h refl
-      go (suc (suc (suc (suc (suc (suc (suc zero))))))) h = known (entry.Always r.n r.m r.a) 7 h refl
-      go (suc (suc (suc (suc (suc (suc (suc (suc zero)))))))) h = known (entry.Eventually r.n r.m r.a) 8 h refl
-      go (suc (suc (suc (suc (suc (suc (suc (suc (suc k))))))))) h = omega arith

@@ -2,7 +2,6 @@
 use Rattle.std.proofs.Common.{Result, None, Ok, Err, ◌≡◌, ℕ, ◌<◌, ◌≤◌, Bool, true, false, ◌&&◌, ◌||◌, eqb, leb, List, length, Some, Option, sym, refl, ap, ◌∙◌, subst, arith}
 use Rattle.std.specs.Result.{result_ok}
 use mir.Val.{bool_byte}
-use mathlib.Core.Bool.{false≢true}
 use Rattle.temporal.specs.Formula.{Formula, bot, top, lit, conj, disj, next, always, eventually, Reading, constant}
 use Rattle.temporal.proofs.Tells.{and_tells, le_tells, self_tells}
 use Rattle.tableau.specs.Card.{Entry, by_kind, build}
@@ -12,9 +11,8 @@ use Rattle.formulas.specs.declared.Formula.{Formula as Entered}
 use Rattle.formulas.specs.declared.Formula.TheVariants as entry
 use Rattle.formulas.specs.Trees.{grow}
 use Rattle.records.specs.declared.FormulaRecord.{FormulaRecord}
-use Rattle.records.specs.declared.kind.UnknownKind.{UnknownKind}
 use Rattle.records.specs.Kinds.{named}
-use Rattle.records.proofs.Named.{Names, named_is, unknown_is, no_kind}
+use Rattle.records.proofs.Named.{Names, named_is}
 use Rattle.records.specs.Raw.{entry_of}
 use Rattle.records.specs.Table.{entry_at, formulas_of, formula_of}
 use Rattle.rested.specs.Listing.{InForm}
@@ -97,11 +95,6 @@ module _ (rs : List FormulaRecord) (ok : InForm rs) (i : ℕ) (l : i < length rs
       go (entry.Eventually n m a) h =
           let p = range_tells i (entry_of f) (form 8 h.0) in
           (omega (arith, p.0.0, h.1, h.2), subst (Part i) h.3 p.1)
-
-  -- each record in form names a formula
-  pub always_named : (u : UnknownKind) → named f ≡ Err u → ⊥
-  always_named u is =
-      false≢true (sym (no_kind f.kind _ _ _ _ _ _ _ _ _ false (unknown_is f u is)) ∙ form f.kind refl)
 
   -- the entry's formula is that of the formula that the record names
   pub named_tree : (x : Entered) → named f ≡ Ok x → formula_of rs i ≡ grow (formulas_of rs) x

@@ -1,5 +1,5 @@
 -- How the place of a formula's rest comes from the places of its parts' rests.
-use Rattle.std.proofs.Common.{◌≡◌, ℕ, Bool, true, false, ◌&&◌, List, [], ◌∷◌, ◌++◌, get_or, is_some, Some, None, Option, sym, refl, ap, ◌∙◌, subst}
+use Rattle.std.proofs.Common.{◌≡◌, ℕ, Bool, true, false, ◌&&◌, List, [], ◌∷◌, ◌++◌, get_or, Some, None, Option, sym, refl, ap, ◌∙◌, subst}
 use Rattle.std.proofs.lemmas.Bool.{and_from, and_left, and_right}
 use Rattle.temporal.specs.Formula.{Formula, bot, Reading, rest}
 use Rattle.temporal.specs.Parts.{member}
@@ -25,21 +25,11 @@ pub placed_member : (ts : List Formula) (f : Formula) (k : ℕ) → Placed ts f 
 placed_member ts f k p = (member_tells f ts).1 (cast p.1 (at_member ts k bot p.0))
 
 module _ (R : Reading) (ts : List Formula) where
-  -- whether there is a place says whether all that is met is in the list
-  pub rested_listed : (f : Formula) (o : Option ℕ) → Rested R ts f o → has_all ts (met R f) ≡ is_some o
-  rested_listed f None r = r
-  rested_listed f (Some k) r = r.0
-
   -- a formula whose rest alone is met
   pub rested_alone : (h : Formula) → met R h ≡ rest R h ∷ [] → (o : Option ℕ) → Placed ts (rest R h) o → Rested R ts h o
   rested_alone h e None p = ap (has_all ts) e ∙ and_left (member (rest R h) ts) true p
   rested_alone h e (Some k) p =
       (ap (has_all ts) e ∙ and_from (member (rest R h) ts) true (placed_member ts (rest R h) k p) refl, p.0, p.1)
-
-  -- a formula whose rest is that of another, and meets the same
-  pub rested_like : (h f : Formula) → met R h ≡ met R f → rest R h ≡ rest R f → (o : Option ℕ) → Rested R ts f o → Rested R ts h o
-  rested_like h f e q None r = ap (has_all ts) e ∙ r
-  rested_like h f e q (Some k) r = (ap (has_all ts) e ∙ r.0, r.1, r.2 ∙ sym q)
 
   -- a formula h whose rest joins the rests of f and g
   module _ (h f g : Formula) (j : Formula → Formula → Formula) (e : met R h ≡ rest R h ∷ (met R f ++ met R g))

@@ -14,7 +14,7 @@ use Rattle.rested.specs.Rests.{Placed, Rested}
 use Rattle.rested.specs.Steps.{JoinedBoth}
 use Rattle.rested.proofs.Trees.{trees_long}
 use Rattle.rested.proofs.Found.{operator_of}
-use Rattle.rested.proofs.Placed.{rested_alone, rested_like, rested_no_left, rested_no_right, rested_both}
+use Rattle.rested.proofs.Placed.{rested_alone, rested_no_left, rested_no_right, rested_both}
 use Rattle.rested.proofs.Placed.{rested_no_body, rested_no_shorter, rested_on}
 
 -- ── X ──
@@ -37,8 +37,6 @@ next_later R ts f (suc (suc n)) o l p =
 pub record Ranged (R : Reading) (operator : ℕ → ℕ → Formula → Formula) (join : Formula → Formula → Formula) : Type 0 where
   pub later_met : (n m : ℕ) (f : Formula) → met R (operator (suc n) (suc m) f) ≡ rest R (operator (suc n) (suc m) f) ∷ []
   pub later_rest : (n m : ℕ) (f : Formula) → rest R (operator (suc n) (suc m) f) ≡ operator n m f
-  pub last_met : (f : Formula) → met R (operator 0 0 f) ≡ met R f
-  pub last_rest : (f : Formula) → rest R (operator 0 0 f) ≡ rest R f
   pub on_met : (m : ℕ) (f : Formula) → met R (operator 0 (suc m) f) ≡ rest R (operator 0 (suc m) f) ∷ (operator 0 m f ∷ met R f)
   pub on_rest : (m : ℕ) (f : Formula) → rest R (operator 0 (suc m) f) ≡ join (rest R f) (operator 0 m f)
 
@@ -46,16 +44,12 @@ pub ranged : (R : Reading) (j : Junction) → Ranged R (range_of j) (join_of j)
 ranged R And = record {
   later_met = λ n m f. refl;
   later_rest = λ n m f. refl;
-  last_met = λ f. refl;
-  last_rest = λ f. refl;
   on_met = λ m f. refl;
   on_rest = λ m f. refl;
 }
 ranged R Or = record {
   later_met = λ n m f. refl;
   later_rest = λ n m f. refl;
-  last_met = λ f. refl;
-  last_rest = λ f. refl;
   on_met = λ m f. refl;
   on_rest = λ m f. refl;
 }
@@ -70,12 +64,6 @@ module _ (R : Reading) (operator : ℕ → ℕ → Formula → Formula) (join : 
       let e : suc m - 1 ≡ m = omega arith in
       rested_alone R ts (operator (suc n) (suc m) f) (law.later_met n m f) o
       (subst (λ (t : Formula). Placed ts t o) ((λ i. operator (d i) (e i) f) ∙ sym (law.later_rest n m f)) p)
-
-  pub range_last : (ts : List Formula) (f : Formula) (n m : ℕ) (o : Option ℕ) → n ≡ 0 → m ≡ 0
-      → Rested R ts f o → Rested R ts (operator n m f) o
-  range_last ts f n m o d e p =
-      subst (λ (t : Formula). Rested R ts t o) (λ i. operator (sym d i) (sym e i) f)
-      (rested_like R ts (operator 0 0 f) f (law.last_met f) (law.last_rest f) o p)
 
   module _ (rs : List FormulaRecord) (slots : List (Slot FormulaKey)) (ready : Ready rs slots) where
     shorter_on : (m : ℕ) (f : Formula) (x y r : Option ℕ) → Rested R (formulas_of rs) f x → Placed (formulas_of rs) (operator 0 m f) y

@@ -1,7 +1,5 @@
-use Rattle.std.proofs.Common.{◌≡◌, Bool, List, get_or, sym, ◌∙◌}
-use Rattle.std.proofs.lemmas.List.{at_drop_all}
-use Rattle.records.specs.declared.FormulaRecord.{FormulaRecord}
-use Rattle.covered.specs.Marks.{covers_range, mark_if, range_from}
+use Rattle.std.proofs.Common.{◌≡◌, get_or, sym, ◌∙◌}
+use Rattle.covered.specs.Marks.{covers_range, mark_if}
 use Rattle.covered.proofs.Passes.{no_record, range_turn, took, passed}
 use Rattle.covered.proofs.cover.cover_range.Goals as goal
 use Rattle.covered.proofs.cover.cover_range.Goals.{then-covers_range, else-covers_range}
@@ -16,8 +14,3 @@ loop-i-preserved c =
     ] in
     let e = range_turn c.args.records.now c.loop-i.i no_record c.loop-i-test.true c.args.held c.loop-i.covered in
     cc
-
-pub returns : goal.returns
-returns c =
-    let f : List FormulaRecord → List Bool = λ xs. range_from c.args.held xs c.loop-i.i c.loop-i.covered in
-    sym (at_drop_all f c.args.records.now c.loop-i.i c.loop-i-test.false) ∙ c.loop-i.invariant

@@ -1,7 +1,5 @@
-use Rattle.std.proofs.Common.{◌≡◌, Bool, ◌&&◌, List, get_or, sym, ◌∙◌}
-use Rattle.std.proofs.lemmas.List.{at_drop_all}
-use Rattle.records.specs.declared.FormulaRecord.{FormulaRecord}
-use Rattle.covered.specs.Marks.{is_range, range_if, ranges_from}
+use Rattle.std.proofs.Common.{◌≡◌, ◌&&◌, get_or, sym, ◌∙◌}
+use Rattle.covered.specs.Marks.{is_range, range_if}
 use Rattle.covered.proofs.Passes.{no_record, ranges_turn, took, passed}
 use Rattle.covered.proofs.cover.cover_ranges.Goals as goal
 use Rattle.covered.proofs.cover.cover_ranges.Goals.{then-is_marked+then-is_range, else-is_marked, else-is_marked-via-then-is_marked+else-is_range, else-is_marked-via-else-is_marked}
@@ -25,9 +23,3 @@ loop-i-preserved c =
     ] in
     let e = ranges_turn rs c.loop-i.i no_record c.loop-i-test.true rs c.args.held.now c.loop-i.covered in
     cc
-
-pub returns : goal.returns
-returns c =
-    let f : List FormulaRecord → List Bool =
-    λ xs. ranges_from c.args.records.now c.args.held.now xs c.loop-i.i c.loop-i.covered in
-    sym (at_drop_all f c.args.records.now c.loop-i.i c.loop-i-test.false) ∙ c.loop-i.invariant

@@ -1,7 +1,5 @@
-use Rattle.std.proofs.Common.{◌≡◌, Bool, List, get_or, sym, ◌∙◌}
-use Rattle.std.proofs.lemmas.List.{at_drop_all}
-use Rattle.records.specs.declared.FormulaRecord.{FormulaRecord}
-use Rattle.covered.specs.Marks.{follows, mark_if, joined_from}
+use Rattle.std.proofs.Common.{◌≡◌, get_or, sym, ◌∙◌}
+use Rattle.covered.specs.Marks.{follows, mark_if}
 use Rattle.covered.proofs.Passes.{no_record, joined_turn, took, passed}
 use Rattle.covered.proofs.cover.cover_wholes.Goals as goal
 use Rattle.covered.proofs.cover.cover_wholes.Goals.{then-follows_from_parts, else-follows_from_parts}
@@ -18,8 +16,3 @@ loop-i-preserved c =
     ] in
     let e = joined_turn c.args.records.now c.loop-i.i no_record c.loop-i-test.true c.args.everything c.loop-i.covered in
     cc
-
-pub returns : goal.returns
-returns c =
-    let f : List FormulaRecord → List Bool = λ xs. joined_from c.args.everything xs c.loop-i.i c.loop-i.covered in
-    sym (at_drop_all f c.args.records.now c.loop-i.i c.loop-i-test.false) ∙ c.loop-i.invariant

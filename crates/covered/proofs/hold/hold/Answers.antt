@@ -7,11 +7,6 @@ use Rattle.covered.proofs.Passes.{held_last, held_none}
 use Rattle.covered.proofs.Holding.{marks_held}
 use Rattle.covered.proofs.hold.hold.Goals as goal
 
-pub loop-i-init : goal.loop-i-init
-loop-i-init c =
-    let left : c.into_iter-i-iterator.result.iter.iter.rest.now ≡ c.args.records.now = cc in
-    (ap (λ (xs : List FormulaRecord). held_marks xs c.args.marks.now) left, cc)
-
 pub loop-i-preserved : goal.loop-i-preserved
 loop-i-preserved c =
     let s = c.in-Some.ensures.steps in

@@ -5,7 +5,7 @@ use Rattle.records.specs.Table.{formulas_of, formula_of}
 use Rattle.rested.specs.Junctions.{join_of, range_of, entry_over}
 use Rattle.rested.specs.Steps.{Listed}
 use Rattle.rested.proofs.Found.{over_placed}
-use Rattle.rested.proofs.Steps.{ranged, range_later, range_last, range_on}
+use Rattle.rested.proofs.Steps.{ranged, range_later, range_on}
 use Rattle.rested.proofs.rest.rest_of_range.Goals as goal
 
 pub returns-then-n-gt0 : goal.returns-then-n-gt0
@@ -17,12 +17,6 @@ returns-then-n-gt0 c rs R ready la l p =
     (omega arith) l
     (over_placed rs ready.listing c.args.a (c.args.n - 1) (c.args.m - 1) la c.listed.result j
     (subst (λ (f : FormulaRecord). Listed c.args.slots.now f c.listed.result) entered c.listed.ensures rs ready))
-
-pub returns-then-m-eq0 : goal.returns-then-m-eq0
-returns-then-m-eq0 c rs R ready la l p =
-    let j = c.args.junction in
-    range_last R (range_of j) (join_of j) (ranged R j) (formulas_of rs) (formula_of rs c.args.a) c.args.n c.args.m c.args.body
-    (omega arith) (omega arith) p
 
 pub returns : goal.returns
 returns c rs R ready la l p =
