@@ -11,6 +11,7 @@ use Rattle.formulas.specs.declared.Formula.{Formula as Entered}
 use Rattle.formulas.specs.declared.Formula.TheVariants as entry
 use Rattle.formulas.specs.Trees.{grow}
 use Rattle.records.specs.declared.FormulaRecord.{FormulaRecord}
+use Rattle.records.specs.declared.kind.UnknownKind.{UnknownKind}
 use Rattle.records.specs.Kinds.{named}
 use Rattle.records.proofs.Named.{Names, named_is}
 use Rattle.records.specs.Raw.{entry_of}
@@ -20,11 +21,6 @@ use Rattle.rested.specs.Rests.{Placed, Rested}
 use Rattle.rested.proofs.Trees.{tree_built}
 use Rattle.rested.proofs.Placed.{rested_alone}
 use Rattle.rested.proofs.Found.{zero_placed, one_placed}
-
--- what a look-up by name gives, where it gives something
-pub named_by : {A E : Type 0} (r n : Result A E) (o : Option A) (x y : A) → r ≡ n → o ≡ result_ok r → o ≡ Some x → x ≡ y → n ≡ Ok y
-named_by (Ok z) n o x y h v w e = let k : z ≡ x = cc in sym h ∙ ap Ok (k ∙ e)
-named_by (Err d) n o x y h v w e = let z : None ≡ Some x = sym v ∙ w in absurd (cc)
 
 -- a part before entry i
 abbrev pub Part : ℕ → ℕ → Type 0
@@ -76,7 +72,7 @@ module _ (rs : List FormulaRecord) (ok : InForm rs) (i : ℕ) (l : i < length rs
       (subst (λ (x : Entry). formula_formed ok.spec i x ≡ true) e (ok.table.formed i l))).1
 
   -- what the form says of the formula that the record names
-  pub named_formed : (x : Entered) → named f ≡ Ok x → FormedAt i x
+  named_formed : (x : Entered) → named f ≡ Ok x → FormedAt i x
   named_formed x is = go x (named_is f x is)
     where
       go : (x : Entered) → Names f x → FormedAt i x
@@ -97,7 +93,7 @@ module _ (rs : List FormulaRecord) (ok : InForm rs) (i : ℕ) (l : i < length rs
           (omega (arith, p.0.0, h.1, h.2), subst (Part i) h.3 p.1)
 
   -- the entry's formula is that of the formula that the record names
-  pub named_tree : (x : Entered) → named f ≡ Ok x → formula_of rs i ≡ grow (formulas_of rs) x
+  named_tree : (x : Entered) → named f ≡ Ok x → formula_of rs i ≡ grow (formulas_of rs) x
   named_tree x is = go x (named_is f x is)
     where
       built : (k : ℕ) → f.kind ≡ k → formula_of rs i ≡ build k f.variable f.n f.m (formula_of rs f.a) (formula_of rs f.b)
@@ -117,9 +113,17 @@ module _ (rs : List FormulaRecord) (ok : InForm rs) (i : ℕ) (l : i < length rs
       go (entry.Always n m a) h = built 7 h.0 ∙ (λ j. always (h.1 j) (h.2 j) (formula_of rs (h.3 j)))
       go (entry.Eventually n m a) h = built 8 h.0 ∙ (λ j. eventually (h.1 j) (h.2 j) (formula_of rs (h.3 j)))
 
-  pub rested_named : (R : Reading) (x : Entered) (o : Option ℕ) → named f ≡ Ok x
-      → Rested R (formulas_of rs) (grow (formulas_of rs) x) o → Rested R (formulas_of rs) (formula_of rs i) o
-  rested_named R x o is r = subst (λ (t : Formula). Rested R (formulas_of rs) t o) (sym (named_tree x is)) r
+  -- the rest of the entry, where the record was read as the formula x
+  pub rested_named : (R : Reading) (x y : Entered) (r : Result Entered UnknownKind) (p : Option Entered) (o : Option ℕ)
+      → r ≡ named f → p ≡ result_ok r → p ≡ Some y → y ≡ x
+      → (FormedAt i x → Rested R (formulas_of rs) (grow (formulas_of rs) x) o) → Rested R (formulas_of rs) (formula_of rs i) o
+  rested_named R x y r p o read got some at here =
+      let is : named f ≡ Ok x = go r read got in
+      subst (λ (t : Formula). Rested R (formulas_of rs) t o) (sym (named_tree x is)) (here (named_formed x is))
+    where
+      go : (r : Result Entered UnknownKind) → r ≡ named f → p ≡ result_ok r → named f ≡ Ok x
+      go (Ok z) h v = let k : z ≡ y = cc in sym h ∙ ap Ok (k ∙ at)
+      go (Err d) h v = let z : None ≡ Some y = sym v ∙ some in absurd (cc)
 
 module _ (rs : List FormulaRecord) (ok : InForm rs) (R : Reading) where
   pub rested_bot : Rested R (formulas_of rs) bot (Some 0)

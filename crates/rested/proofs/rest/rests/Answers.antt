@@ -1,11 +1,10 @@
 use Rattle.std.proofs.Common.{◌≡◌, ℕ, ◌<◌, length, get_or, None, Option, sym, ap, ◌∙◌, arith}
 use Rattle.std.proofs.lemmas.List.{length-set, length-replicate, length_push, get_or-map}
-use Rattle.std.proofs.lemmas.Iterator.{YieldsList-from_slice, YieldsList-from_take}
-use Rattle.std.proofs.lemmas.Iterator.Consumers.{YieldsList-from_enumerate, YieldsList-turn, YieldsList-end}
+use Rattle.std.proofs.lemmas.Iterator.Consumers.{YieldsList-turn, YieldsList-end}
 use Rattle.tableau.specs.Card.{no_entry}
 use Rattle.records.specs.Raw.{entry_of}
 use Rattle.records.specs.Table.{entry_at, formulas_of, formula_of}
-use Rattle.records.proofs.Turns.{turn, length-numbered}
+use Rattle.records.proofs.Turns.{turn, length-numbered, first_numbered}
 use Rattle.rested.specs.Rests.{Rested}
 use Rattle.rested.proofs.Memo.{all_none, filled_more, empty_more}
 use Rattle.rested.proofs.rest.rests.Goals as goal
@@ -22,7 +21,7 @@ loop-i-preserved g c =
     let v = c.rest_of.result in
     let P : ℕ → Option ℕ → Type 0 = λ k o. Rested (g.R.Reading.literals c.args.reading.now) (formulas_of rs) (formula_of rs k) o in
     let t = turn rs 1024 (length c.loop-i.yielded) i f
-    (YieldsList-turn (YieldsList-from_take 1024 (YieldsList-from_enumerate (YieldsList-from_slice rs (cc)) (cc)) (cc))
+    (YieldsList-turn (first_numbered rs 1024 (cc) (cc) (cc))
     c.loop-i.yielded _ c.loop-i.yielded_by _ _ _ c.in-Some.is c.next.ensures.steps) in
     let more = length_push c.loop-i.yielded (i, c.in-Some.record) in
     let l : i < length memo = omega (arith, c.loop-i.invariant.2, t.0, t.2) in
@@ -39,7 +38,7 @@ loop-i-preserved g c =
 pub returns : goal.returns
 returns g c =
     let rs = c.args.records.now in
-    let e = YieldsList-end (YieldsList-from_take 1024 (YieldsList-from_enumerate (YieldsList-from_slice rs (cc)) (cc)) (cc))
+    let e = YieldsList-end (first_numbered rs 1024 (cc) (cc) (cc))
     c.loop-i.yielded _ c.loop-i.yielded_by _ _ c.in-None.is c.next.ensures.steps in
     let n = e.1 ∙ length-numbered rs 1024 in
     record {
