@@ -1,4 +1,3 @@
 pub mod Limits
 pub mod Looks
-pub mod Parts
 mod Samples

@@ -68,11 +68,14 @@ module _ (text : List ℕ) where
       let all = both_on at n.next end (both_on at begin n.next o h.on) e in
       record { after = all.after; in_text = all.in_text; least = h.least; most = h.most }))
 
+  pub bracket_good : (at : ℕ) → WhenOk (GoodBound text at) (bound_after text (look_at text at).next)
+  bracket_good at = after_good at (look_at text at).next (look_on at)
+
   pub bound_good : (at : ℕ) → WhenOk (GoodBound text at) (bound_in text at)
   unfolding bound_in
   bound_good at =
       cond_both (is_symbol symbol.Left (look_at text at).token) _ _ (WhenOk (GoodBound text at))
-      (λ _. after_good at (look_at text at).next (look_on at))
+      (λ _. bracket_good at)
       (λ _. record { after = omega arith; in_text = λ h. h; least = omega arith; most = omega arith })
 
   pub range_good : (at : ℕ) → WhenOk (GoodRange text at) (range_in text at)

@@ -103,9 +103,6 @@ symbol_fits text from b c t lt eb ec e =
     (λ h. omega (arith, some_byte text (from + 1) (omega arith))) (λ h. omega (arith, some_byte text (from + 2) (omega arith))) in
     omega (arith, ap symbol_length e, short)
 
-true_false : ◌≡◌ {A = Bool} true false → ⊥
-true_false e = let z : ◌≡◌ {A = ℕ} 0 1 = cc in omega arith
-
 run_fits : (text : List ℕ) (p : ℕ → Bool) (i : ℕ) → i ≤ length text → i + prefix_len p (drop i text) ≤ length text
 run_fits text p i h = omega (arith, prefix_len-le-length p (drop i text), length-drop i text)
 
@@ -155,7 +152,7 @@ module _ (text : List ℕ) (at : ℕ) where
   look_more = told.3
 
   pub look_longer : is_end (look_at text at).token ≡ false → (look_at text at).from < (look_at text at).next
-  look_longer h = ⊎_elim (λ e. absurd (true_false (sym e ∙ h))) (λ lt. lt) look_more
+  look_longer h = ⊎_elim (λ e. cc) (λ lt. lt) look_more
 
   -- so a look never goes back, and goes forward but at the end
   pub look_next : at ≤ (look_at text at).next

@@ -2,6 +2,8 @@
 use Rattle.std.specs.Prelude.{ℕ, Bool, true, false, Some, None, Option, ◌==◌}
 use Rattle.faults.specs.declared.Reason.{Reason}
 use Rattle.faults.specs.declared.Reason.TheVariants as reason
+use Rattle.faults.specs.declared.TextFault.{TextFault}
+use Rattle.lexer.specs.declared.token.Lexeme.{Lexeme}
 use Rattle.lexer.specs.declared.token.Symbol.{Symbol}
 use Rattle.lexer.specs.declared.token.Symbol.TheVariants as symbol
 use Rattle.lexer.specs.declared.token.Token.{Token}
@@ -60,6 +62,10 @@ refusal_of (token.Constant b) = reason.Misplaced
 refusal_of (token.Temporal o) = reason.Misplaced
 refusal_of (token.Number n) = reason.Misplaced
 refusal_of (token.Symbol s) = reason.Misplaced
+
+-- the refusal for a reason at the place where the token x begins
+abbrev pub fault_of : Reason → Lexeme → TextFault
+fault_of r x = record { reason = r; place = x.from }
 
 abbrev pub number_of : Token → Option ℕ
 number_of token.End = None

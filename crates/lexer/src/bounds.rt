@@ -1,19 +1,19 @@
 // The bounds of temporal operators: `[n]` behind X, `[n,m]` behind G and F.
 ghost use Rattle.std.specs.Prelude.{◌≡◌};
-ghost use Rattle.lexer.specs.Bounds.{outside, sign_in, number_in, bound_after, bound_in, range_from, range_in, WhenOk, GoodBound, GoodRange};
+ghost use Rattle.lexer.specs.Bounds.{sign_in, number_in, bound_after, bound_in, range_from, range_in, WhenOk, GoodBound, GoodRange};
 
 use super::look::look;
 use super::token::Symbol;
 use faults::{Reason, TextFault};
 
-// A number that was read, and where the text goes on behind it.
+/// A number that was read, and where the text goes on behind it.
 #[derive(Clone, Copy, PartialEq, Eq, Debug)]
 pub struct Bound {
     pub value: u16,
     pub next: usize,
 }
 
-// Two numbers that were read, and where the text goes on behind them.
+/// Two numbers that were read, and where the text goes on behind them.
 #[derive(Clone, Copy, PartialEq, Eq, Debug)]
 pub struct Range {
     pub low: u16,
@@ -21,43 +21,27 @@ pub struct Range {
     pub next: usize,
 }
 
-fn is_outside(value: u16, least: u16) -> bool
-    ensures { result ≡ outside least value }
-{
-    value < least || value > 4095
-}
-
 // Where the text goes on behind a symbol that has to stand here.
+#[tactic(auto, unfolding(crate::specs::Bounds::sign_in))]
 fn read_symbol(text: &[u8], at: usize, want: Symbol) -> Result<usize, TextFault>
     ensures { result ≡ sign_in text.now want at }
 {
     let seen = look(text, at);
-    if seen.token.is_symbol(want) {
-        Ok(seen.next)
-    } else {
-        Err(TextFault {
-            reason: seen.token.refusal(),
-            place: seen.from,
-        })
+    if !seen.token.is_symbol(want) {
+        return Err(seen.misplaced());
     }
+    Ok(seen.next)
 }
 
 // A number from `least` to 4,095 that has to stand here.
+#[tactic(auto, unfolding(crate::specs::Bounds::number_in))]
 fn read_number(text: &[u8], at: usize, least: u16) -> Result<Bound, TextFault>
     ensures { result ≡ number_in text.now least at }
 {
     let seen = look(text, at);
-    let Some(value) = seen.token.number() else {
-        return Err(TextFault {
-            reason: seen.token.refusal(),
-            place: seen.from,
-        });
-    };
-    if is_outside(value, least) {
-        return Err(TextFault {
-            reason: Reason::Bounds,
-            place: seen.from,
-        });
+    let value = seen.token.number().ok_or(seen.misplaced())?;
+    if !(least..=4095).contains(&value) {
+        return Err(seen.fault(Reason::Bounds));
     }
     Ok(Bound {
         value,
@@ -77,7 +61,8 @@ fn bound_after(text: &[u8], begin: usize) -> Result<Bound, TextFault>
     })
 }
 
-// The bound behind X, which is 1 where no bracket follows.
+/// The bound behind X, which is 1 where no bracket follows.
+#[tactic(auto, unfolding(crate::specs::Bounds::bound_in))]
 pub fn read_bound(text: &[u8], at: usize) -> Result<Bound, TextFault>
     ensures value { result ≡ bound_in text.now at }
     ensures bound { WhenOk (GoodBound text.now at) result }
@@ -106,7 +91,8 @@ fn bracketed(text: &[u8], at: usize) -> Result<Range, TextFault>
     })
 }
 
-// The bounds behind G or F.
+/// The bounds behind G or F.
+#[tactic(auto, unfolding(crate::specs::Bounds::range_in))]
 pub fn read_range(text: &[u8], at: usize) -> Result<Range, TextFault>
     ensures value { result ≡ range_in text.now at }
     ensures bound { WhenOk (GoodRange text.now at) result }

@@ -1,8 +1,8 @@
 // What a token is.
 ghost use Rattle.std.specs.Prelude.{◌≡◌};
-ghost use Rattle.lexer.specs.Tokens.{is_symbol, is_line, is_end, refusal_of, number_of};
+ghost use Rattle.lexer.specs.Tokens.{fault_of, is_symbol, is_line, is_end, refusal_of, number_of};
 
-use faults::Reason;
+use faults::{Reason, TextFault};
 
 // The temporal operators: X, G and F.
 #[derive(Clone, Copy, PartialEq, Eq, Debug)]
@@ -14,16 +14,16 @@ pub enum Operator {
 
 #[derive(Clone, Copy, PartialEq, Eq, Debug)]
 pub enum Symbol {
-    Not = 0,
-    And = 1,
-    Or = 2,
-    Implies = 3,
-    Equivalent = 4,
-    Open = 5,
-    Close = 6,
-    Left = 7,
-    Right = 8,
-    Comma = 9,
+    Not,
+    And,
+    Or,
+    Implies,
+    Equivalent,
+    Open,
+    Close,
+    Left,
+    Right,
+    Comma,
 }
 
 // A byte or a word that no text may have is unknown; a number above 4,095 counts as 4,096.
@@ -40,7 +40,7 @@ pub enum Token {
 }
 
 // A token, where it begins, and where the text goes on behind it.
-#[derive(Clone, Copy)]
+#[derive(Clone, Copy, PartialEq, Eq, Debug)]
 pub struct Lexeme {
     pub token: Token,
     pub from: usize,
@@ -48,34 +48,28 @@ pub struct Lexeme {
 }
 
 impl Token {
+    /// Whether the token is this symbol.
     pub fn is_symbol(self, symbol: Symbol) -> bool
         ensures { result ≡ is_symbol symbol self }
     {
-        match self {
-            Token::Symbol(own) => own as u8 == symbol as u8,
-            _ => false,
-        }
+        self == Token::Symbol(symbol)
     }
 
+    /// Whether the token ends a line.
     pub fn is_line(self) -> bool
         ensures { result ≡ is_line self }
     {
-        match self {
-            Token::Line => true,
-            _ => false,
-        }
+        self == Token::Line
     }
 
+    /// Whether the token is the end of the text.
     pub fn is_end(self) -> bool
         ensures { result ≡ is_end self }
     {
-        match self {
-            Token::End => true,
-            _ => false,
-        }
+        self == Token::End
     }
 
-    // Why this token is refused where it may not stand.
+    /// Why this token is refused where it may not stand.
     pub fn refusal(self) -> Reason
         ensures { result ≡ refusal_of self }
     {
@@ -85,6 +79,7 @@ impl Token {
         }
     }
 
+    /// The number that the token writes.
     pub fn number(self) -> Option<u16>
         ensures { result ≡ number_of self }
     {
@@ -92,5 +87,24 @@ impl Token {
             Token::Number(value) => Some(value),
             _ => None,
         }
+    }
+}
+
+impl Lexeme {
+    /// A refusal at the place where this token begins.
+    pub fn fault(self, reason: Reason) -> TextFault
+        ensures { result ≡ fault_of reason self }
+    {
+        TextFault {
+            reason,
+            place: self.from,
+        }
+    }
+
+    /// The refusal of this token where it may not stand.
+    pub fn misplaced(self) -> TextFault
+        ensures { result ≡ fault_of (refusal_of self.token) self }
+    {
+        self.fault(self.token.refusal())
     }
 }

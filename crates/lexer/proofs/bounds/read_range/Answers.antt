@@ -3,10 +3,9 @@ use Rattle.lexer.specs.Bounds.{range_in, WhenOk, GoodRange}
 use Rattle.lexer.proofs.Limits.{range_good}
 use Rattle.lexer.proofs.bounds.read_range.Goals as goal
 
-pub returns : goal.returns
+pub returns-clause-bound : goal.returns-clause-bound
 unfolding range_in
-returns c =
+returns-clause-bound c =
     let text = c.args.text.now in
     let at = c.args.at in
-    let e = c.bracketed.ensures in
-    record { value = e; bound = subst (WhenOk (GoodRange text at)) (sym e) (range_good text at) }
+    subst (WhenOk (GoodRange text at)) (sym c.bracketed.ensures) (range_good text at)

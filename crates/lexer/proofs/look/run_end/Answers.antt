@@ -1,21 +1,17 @@
-use Rattle.std.proofs.Common.{sym, arith}
-use Rattle.std.proofs.lemmas.List.Sums.{prefix_len-drop_yes, prefix_len-drop_no, prefix_len-drop_all}
-use Rattle.lexer.specs.Lexer.{is_in}
+use Rattle.std.proofs.Common.{ℕ, ◌-◌, ◌≤◌, List, length, drop, length-drop, arith}
+use Rattle.std.proofs.lemmas.List.Sums.{prefix_len-le-length}
+use Rattle.lexer.specs.declared.look.Class.{Class}
+use Rattle.lexer.specs.Lexer.{is_in, run}
 use Rattle.lexer.proofs.look.run_end.Goals as goal
 
-pub loop-i-preserved : goal.loop-i-preserved
-loop-i-preserved c =
-    let is = sym c.if-is_in.ensures in
-    let one = prefix_len-drop_yes (is_in c.args.class) c.args.text.now c.loop-i.i 0 c.loop-i-test.true is in
-    (omega (arith, one), λ _. omega arith, omega arith)
+-- a run ends in the text, or is empty behind it
+run_fits : (k : Class) (text : List ℕ) (from : ℕ) → run k text from ≤ length text - from
+run_fits k text from = omega (arith, prefix_len-le-length (is_in k) (drop from text), length-drop from text)
 
-pub returns-else-is_in : goal.returns-else-is_in
-returns-else-is_in c =
-    let non = sym c.if-is_in.ensures in
-    let none = prefix_len-drop_no (is_in c.args.class) c.args.text.now c.loop-i.i 0 c.loop-i-test.true non in
-    record { value = omega (arith, none); bound = (c.loop-i.invariant.1, c.loop-i.invariant.2) }
+pub overflow_add-result : goal.overflow_add-result
+overflow_add-result c = omega (arith, run_fits c.args.class c.args.text.now c.args.from)
 
-pub returns-after-loop-i : goal.returns-after-loop-i
-returns-after-loop-i c =
-    let none = prefix_len-drop_all (is_in c.args.class) c.args.text.now c.loop-i.i c.loop-i-test.false in
-    record { value = omega (arith, none); bound = (c.loop-i.invariant.1, c.loop-i.invariant.2) }
+pub returns-clause-bound : goal.returns-clause-bound
+returns-clause-bound c =
+    let fits = run_fits c.args.class c.args.text.now c.args.from in
+    (λ inside. omega (arith, c.run_len.ensures, fits), omega arith)
