@@ -545,27 +545,27 @@ module _ (text other : List ℕ) (place : ℕ) (same : SameTokens text other pla
 
   group_step :
       (n : ℕ) → Inner n → (x : Lexeme) (s : State) →
-      Step PassedOut x.next (begun text (inside text n) x s head.Group) (begun other (inside other n) x s head.Group)
+      Step PassedOut x.next (begun text (inside text n) x s (Some head.Group)) (begun other (inside other n) x s (Some head.Group))
   group_step n i x s =
       out_step x.next _ _ _ _ (whole_step n i x.from (moved s x.next)) (λ t s' _. closed_step t s')
 
   begun_past :
-      (n : ℕ) → Inner n → (s : State) (h : Head) → Past s.at → PassedOut (begun text (inside text n) (look_at text s.at) s h)
-  begun_past n i s head.Wrong o = λ b. o.0 b.0
-  begun_past n i s (head.Constant v) o = past_next s.at o
-  begun_past n i s head.Variable o =
+      (n : ℕ) → Inner n → (s : State) (h : Option Head) → Past s.at → PassedOut (begun text (inside text n) (look_at text s.at) s h)
+  begun_past n i s None o = λ b. o.0 b.0
+  begun_past n i s (Some (head.Constant v)) o = past_next s.at o
+  begun_past n i s (Some head.Variable) o =
       cond_both (ltb (rank (word_name text (look_at text s.at)) s.names) 16) _ _ PassedOut (λ _. past_next s.at o) (λ _ b. o.0 b.0)
-  begun_past n i s (head.Prefix u) o = (behind_unary n i u (look_at text s.at) s).past (past_next s.at o)
-  begun_past n i s head.Group o = (group_step n i (look_at text s.at) s).past (past_next s.at o)
+  begun_past n i s (Some (head.Prefix u)) o = (behind_unary n i u (look_at text s.at) s).past (past_next s.at o)
+  begun_past n i s (Some head.Group) o = (group_step n i (look_at text s.at) s).past (past_next s.at o)
 
   begun_agree :
-      (n : ℕ) → Inner n → (s : State) (h : Head) → SameToken text other s.at →
+      (n : ℕ) → Inner n → (s : State) (h : Option Head) → SameToken text other s.at →
       Agrees (begun text (inside text n) (look_at text s.at) s h) (begun other (inside other n) (look_at text s.at) s h)
-  begun_agree n i s head.Wrong l = inl refl
-  begun_agree n i s (head.Constant v) l = inl refl
-  begun_agree n i s head.Variable l = inl (ap (λ w. named (name_of w) (look_at text s.at) s) (sym l.bytes))
-  begun_agree n i s (head.Prefix u) l = (behind_unary n i u (look_at text s.at) s).agree
-  begun_agree n i s head.Group l = (group_step n i (look_at text s.at) s).agree
+  begun_agree n i s None l = inl refl
+  begun_agree n i s (Some (head.Constant v)) l = inl refl
+  begun_agree n i s (Some head.Variable) l = inl (ap (λ w. named (name_of w) (look_at text s.at) s) (sym l.bytes))
+  begun_agree n i s (Some (head.Prefix u)) l = (behind_unary n i u (look_at text s.at) s).agree
+  begun_agree n i s (Some head.Group) l = (group_step n i (look_at text s.at) s).agree
 
   level_forward : (n : ℕ) (l : Level) (s s' : State) (t : Written) → level_at text n l s ≡ good t s' → s.at ≤ s'.at
   level_forward n l s s' t g = forward text (sound_at text n l s s' t g)

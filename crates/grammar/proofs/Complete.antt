@@ -1,5 +1,5 @@
 -- What the grammar shows, up to a token that cannot go on with it, is what is read.
-use Rattle.std.proofs.Common.{◌≡◌, ℕ, zero, suc, ◌+◌, ◌<◌, ◌≤◌, Bool, true, false, ltb, List, length, Ok, sym, ap, ◌∙◌, arith}
+use Rattle.std.proofs.Common.{◌≡◌, ℕ, zero, suc, ◌+◌, ◌<◌, ◌≤◌, Bool, true, false, ltb, List, length, Some, Ok, sym, ap, ◌∙◌, arith}
 use Rattle.std.proofs.lemmas.Bool.{cond-true, lt-ltb}
 use Rattle.lexer.specs.declared.token.Symbol.TheVariants as symbol
 use Rattle.lexer.specs.declared.token.Token.{Token}
@@ -111,36 +111,36 @@ module _ (text : List ℕ) where
   -- one lemma for each way to begin
 
   reads_constant :
-      (n : ℕ) (a : State) (v : Bool) → head_of (look_at text a.at).token ≡ head.Constant v →
+      (n : ℕ) (a : State) (v : Bool) → head_of (look_at text a.at).token ≡ Some (head.Constant v) →
       level_at text n unary a ≡ good (constant_of v) (moved a (look_at text a.at).next)
-  reads_constant n a v e = unary_is text (inside text n) a (head.Constant v) e
+  reads_constant n a v e = unary_is text (inside text n) a (Some (head.Constant v)) e
 
   reads_variable :
-      (n : ℕ) (a : State) (x : Name) → head_of (look_at text a.at).token ≡ head.Variable → x ≡ word_name text (look_at text a.at) →
+      (n : ℕ) (a : State) (x : Name) → head_of (look_at text a.at).token ≡ Some head.Variable → x ≡ word_name text (look_at text a.at) →
       rank x a.names < 16 →
       level_at text n unary a
       ≡ good (variable (variable_of x a.names)) (record { at = (look_at text a.at).next; names = extended x a.names })
   reads_variable n a x e q lt =
-      unary_is text (inside text n) a head.Variable e ∙ ap (λ y. named y (look_at text a.at) a) (sym q)
+      unary_is text (inside text n) a (Some head.Variable) e ∙ ap (λ y. named y (look_at text a.at) a) (sym q)
       ∙ cond-true (ltb (rank x a.names) 16) _ _ (lt-ltb _ _ lt)
 
   reads_unary :
-      (n : ℕ) (a b : State) (t : Written) (u : Unary) (p : Prefixed) → head_of (look_at text a.at).token ≡ head.Prefix u →
+      (n : ℕ) (a b : State) (t : Written) (u : Unary) (p : Prefixed) → head_of (look_at text a.at).token ≡ Some (head.Prefix u) →
       prefix_in text u (look_at text a.at).next ≡ Ok p → level_at text n unary (moved a p.next) ≡ good t b →
       level_at text (suc n) unary a ≡ good (apply p.prefix t) b
   unfolding inside
   reads_unary n a b t u p e q g =
-      unary_is text (inside text (suc n)) a (head.Prefix u) e
+      unary_is text (inside text (suc n)) a (Some (head.Prefix u)) e
       ∙ ap (λ r. prefixed r (level_at text n unary) a) q ∙ ap (λ o. and_then o (λ v s'. good (apply p.prefix v) s')) g
 
   reads_group :
-      (n : ℕ) (a b : State) (t : Written) → head_of (look_at text a.at).token ≡ head.Group →
+      (n : ℕ) (a b : State) (t : Written) → head_of (look_at text a.at).token ≡ Some head.Group →
       level_at text n (up_to connective.Equivalent) (moved a (look_at text a.at).next) ≡ good t b →
       is_symbol symbol.Close (look_at text b.at).token ≡ true →
       level_at text (suc n) unary a ≡ good t (moved b (look_at text b.at).next)
   unfolding inside
   reads_group n a b t e g q =
-      unary_is text (inside text (suc n)) a head.Group e
+      unary_is text (inside text (suc n)) a (Some head.Group) e
       ∙ ap (λ o. and_then o (λ v s'. closed v s' (look_at text s'.at))) g ∙ closed_is t b (look_at text b.at) true q
 
   -- an operand that no arrow follows, and an arrow with both sides

@@ -1,6 +1,6 @@
 -- Formula lines: what the grammar has and what is read.
-use Rattle.std.proofs.Common.{◌≡◌, ℕ, zero, suc, ◌+◌, ◌<◌, ◌≤◌, Bool, true, false, ◌⊎◌, List, length, codes, sym, refl, ap, ◌∙◌, inl, inr, ⊎_elim, arith}
-use Rattle.std.proofs.lemmas.Bool.{false≢true, and_parts, and_left, and_right, cases_Bool, cases_lt}
+use Rattle.std.proofs.Common.{◌≡◌, ℕ, zero, suc, ◌+◌, ◌<◌, ◌≤◌, Bool, true, false, ◌⊎◌, List, length, Some, codes, sym, refl, ap, ◌∙◌, inl, inr, ⊎_elim, arith}
+use Rattle.std.proofs.lemmas.Bool.{and_parts, and_left, and_right, cases_Bool, cases_lt}
 use Rattle.lexer.specs.declared.token.Symbol.{Symbol}
 use Rattle.lexer.specs.declared.token.Symbol.TheVariants as symbol
 use Rattle.lexer.specs.Lexer.{look_at}
@@ -8,7 +8,6 @@ use Rattle.lexer.specs.Tokens.{is_symbol, is_line}
 use Rattle.lexer.proofs.Looks.{look_in_text}
 use Rattle.temporal.specs.Written.{Written, conjunction}
 use Rattle.nodes.specs.declared.node.Connective.TheVariants as connective
-use Rattle.grammar.specs.declared.head.Head.{Head}
 use Rattle.grammar.specs.declared.head.Head.TheVariants as head
 use Rattle.grammar.specs.Grammar.{head_of, State, moved, Out, good, and_then}
 use Rattle.grammar.specs.Sections.{is_word, is_this, ended, blanks, line_in, third_begins, formula_in, lines_in, safety_in}
@@ -21,24 +20,13 @@ use Rattle.grammar.proofs.Sound.{sound}
 use Rattle.grammar.proofs.Steps.{level_at}
 use Rattle.grammar.proofs.Tokens.{head_not_line, symbol_not_word, line_not_word, word_begins, line_forward, no_line_past}
 
--- a head that is a variable is no other
-abbrev variable_head : Head → Bool
-variable_head head.Wrong = false
-variable_head (head.Constant b) = false
-variable_head head.Variable = true
-variable_head (head.Prefix u) = false
-variable_head head.Group = false
-
 module _ (text : List ℕ) where
-  other_head : (a : ℕ) (h : Head) → head_of (look_at text a).token ≡ head.Variable → head_of (look_at text a).token ≡ h → variable_head h ≡ true
-  other_head a h v e = sym (ap variable_head e) ∙ ap variable_head v
-
   -- no formula begins with a line end
   begins : {l : Level} {n : ℕ} {a b : State} {t : Written} → Shows text l n a b t → is_line (look_at text a.at).token ≡ false
-  begins (shows_constant {a = a} v e) = head_not_line (look_at text a.at).token (head.Constant v) e refl
-  begins (shows_variable {a = a} x e q r) = head_not_line (look_at text a.at).token head.Variable e refl
-  begins (shows_unary {a = a} u next p e q s) = head_not_line (look_at text a.at).token (head.Prefix u) e refl
-  begins (shows_group {a = a} e s q) = head_not_line (look_at text a.at).token head.Group e refl
+  begins (shows_constant {a = a} v e) = head_not_line (look_at text a.at).token (head.Constant v) e
+  begins (shows_variable {a = a} x e q r) = head_not_line (look_at text a.at).token head.Variable e
+  begins (shows_unary {a = a} u next p e q s) = head_not_line (look_at text a.at).token (head.Prefix u) e
+  begins (shows_group {a = a} e s q) = head_not_line (look_at text a.at).token head.Group e
   begins (shows_operand c s) = begins s
   begins (shows_and s e s') = begins s
   begins (shows_or s e s') = begins s
@@ -56,12 +44,12 @@ module _ (text : List ℕ) where
   joined a b c s (inr e) q = inr e
 
   alone :
-      {l : Level} {n : ℕ} {a b : State} {t : Written} → Shows text l n a b t → head_of (look_at text a.at).token ≡ head.Variable →
+      {l : Level} {n : ℕ} {a b : State} {t : Written} → Shows text l n a b t → head_of (look_at text a.at).token ≡ Some head.Variable →
       Alone a b
   alone (shows_constant v e) h = inl refl
   alone (shows_variable x e q r) h = inl refl
-  alone (shows_unary {a = a} u next p e q s) h = absurd (false≢true (other_head a.at (head.Prefix u) h e))
-  alone (shows_group {a = a} e s q) h = absurd (false≢true (other_head a.at head.Group h e))
+  alone (shows_unary {a = a} u next p e q s) h = absurd cc
+  alone (shows_group {a = a} e s q) h = absurd cc
   alone (shows_operand c s) h = alone s h
   alone (shows_and {a = a} {b = b} {c = c} s e s') h = joined a b c symbol.And (alone s h) e
   alone (shows_or {a = a} {b = b} {c = c} s e s') h = joined a b c symbol.Or (alone s h) e

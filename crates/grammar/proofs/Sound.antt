@@ -1,5 +1,5 @@
 -- What is read is what the grammar shows.
-use Rattle.std.proofs.Common.{◌≡◌, ℕ, zero, suc, Bool, true, false, ltb, List, length, Ok, Err, Result, sym, refl, ◌∙◌}
+use Rattle.std.proofs.Common.{◌≡◌, ℕ, zero, suc, Bool, true, false, ltb, List, length, Some, None, Ok, Err, Option, Result, sym, refl, ◌∙◌}
 use Rattle.std.proofs.lemmas.Bool.{ltb-true}
 use Rattle.faults.specs.declared.TextFault.{TextFault}
 use Rattle.lexer.specs.declared.token.Symbol.TheVariants as symbol
@@ -60,7 +60,7 @@ module _ (text : List ℕ) where
   Inner (suc n) = Sound n unary × Sound n (up_to connective.Implies) × Sound n (up_to connective.Equivalent)
 
   prefixed_sound :
-      (n : ℕ) → Sound n unary → (a b : State) (t : Written) (u : Unary) → head_of (look_at text a.at).token ≡ head.Prefix u →
+      (n : ℕ) → Sound n unary → (a b : State) (t : Written) (u : Unary) → head_of (look_at text a.at).token ≡ Some (head.Prefix u) →
       (r : Result Prefixed TextFault) → prefix_in text u (look_at text a.at).next ≡ r →
       prefixed r (unary_by text (inside text n)) a ≡ good t b → Shows text unary (suc n) a b t
   prefixed_sound n su a b t u e (Ok p) q g =
@@ -69,14 +69,14 @@ module _ (text : List ℕ) where
   prefixed_sound n su a b t u e (Err f) q g = absurd (never_good g)
 
   behind_sound :
-      (n : ℕ) → Inner n → (a b : State) (t : Written) (u : Unary) → head_of (look_at text a.at).token ≡ head.Prefix u →
+      (n : ℕ) → Inner n → (a b : State) (t : Written) (u : Unary) → head_of (look_at text a.at).token ≡ Some (head.Prefix u) →
       behind text (inside text n) u (look_at text a.at) a ≡ good t b → Shows text unary n a b t
   unfolding inside
   behind_sound zero i a b t u e g = absurd (never_good g)
   behind_sound (suc n) i a b t u e g = prefixed_sound n i.0 a b t u e _ refl g
 
   closed_sound :
-      (n : ℕ) (a b c : State) (t u : Written) → head_of (look_at text a.at).token ≡ head.Group →
+      (n : ℕ) (a b c : State) (t u : Written) → head_of (look_at text a.at).token ≡ Some head.Group →
       Shows text (up_to connective.Equivalent) n (moved a (look_at text a.at).next) c u →
       (x : Bool) → is_symbol symbol.Close (look_at text c.at).token ≡ x → closed_by u c (look_at text c.at) x ≡ good t b →
       Shows text unary (suc n) a b t
@@ -84,8 +84,8 @@ module _ (text : List ℕ) where
   closed_sound n a b c t u e s false q g = absurd (never_good g)
 
   group_sound :
-      (n : ℕ) → Inner n → (a b : State) (t : Written) → head_of (look_at text a.at).token ≡ head.Group →
-      begun text (inside text n) (look_at text a.at) a head.Group ≡ good t b → Shows text unary n a b t
+      (n : ℕ) → Inner n → (a b : State) (t : Written) → head_of (look_at text a.at).token ≡ Some head.Group →
+      begun text (inside text n) (look_at text a.at) a (Some head.Group) ≡ good t b → Shows text unary n a b t
   unfolding inside
   group_sound zero i a b t e g = absurd (never_good g)
   group_sound (suc n) i a b t e g =
@@ -94,16 +94,16 @@ module _ (text : List ℕ) where
       closed_sound n a b o.1 t o.0 e (i.2 _ _ _ o.2) _ refl o.3
 
   begun_sound :
-      (n : ℕ) → Inner n → (a b : State) (t : Written) (h : Head) → head_of (look_at text a.at).token ≡ h →
+      (n : ℕ) → Inner n → (a b : State) (t : Written) (h : Option Head) → head_of (look_at text a.at).token ≡ h →
       begun text (inside text n) (look_at text a.at) a h ≡ good t b → Shows text unary n a b t
-  begun_sound n i a b t head.Wrong e g = absurd (never_good g)
-  begun_sound n i a b t (head.Constant v) e g = carried (λ d v. Shows text unary n a d v) g (shows_constant v e)
-  begun_sound n i a b t head.Variable e g =
+  begun_sound n i a b t None e g = absurd (never_good g)
+  begun_sound n i a b t (Some (head.Constant v)) e g = carried (λ d v. Shows text unary n a d v) g (shows_constant v e)
+  begun_sound n i a b t (Some head.Variable) e g =
       let x = word_name text (look_at text a.at) in
       let p = split_test (ltb (rank x a.names) 16) _ _ _ t b g in
       carried (λ d v. Shows text unary n a d v) p.1 (shows_variable x e refl (ltb-true _ _ p.0))
-  begun_sound n i a b t (head.Prefix u) e g = behind_sound n i a b t u e g
-  begun_sound n i a b t head.Group e g = group_sound n i a b t e g
+  begun_sound n i a b t (Some (head.Prefix u)) e g = behind_sound n i a b t u e g
+  begun_sound n i a b t (Some head.Group) e g = group_sound n i a b t e g
 
   unary_sound : (n : ℕ) → Inner n → Sound n unary
   unary_sound n i a b t g = begun_sound n i a b t _ refl (sym (unary_is text (inside text n) a _ refl) ∙ g)

@@ -1,5 +1,5 @@
 -- The steps of the descent, one at a time.
-use Rattle.std.proofs.Common.{◌≡◌, ℕ, zero, suc, Bool, true, false, List, length, refl, ap}
+use Rattle.std.proofs.Common.{◌≡◌, ℕ, zero, suc, Bool, true, false, List, length, Option, refl, ap}
 use Rattle.lexer.specs.declared.token.Lexeme.{Lexeme}
 use Rattle.lexer.specs.declared.token.Symbol.TheVariants as symbol
 use Rattle.lexer.specs.Lexer.{look_at}
@@ -29,7 +29,7 @@ operand_is text n connective.Implies = refl
 operand_is text n connective.Equivalent = refl
 
 pub unary_is :
-    (text : List ℕ) (d : Inside) (s : State) (h : Head) → head_of (look_at text s.at).token ≡ h →
+    (text : List ℕ) (d : Inside) (s : State) (h : Option Head) → head_of (look_at text s.at).token ≡ h →
     unary_by text d s ≡ begun text d (look_at text s.at) s h
 unfolding unary_by
 unary_is text d s h e = ap (begun text d (look_at text s.at) s) e

@@ -1,5 +1,5 @@
 -- What a token that is one thing is not.
-use Rattle.std.proofs.Common.{◌≡◌, ℕ, ◌<◌, ◌≤◌, Bool, true, false, List, length, sym, refl, ap, ◌∙◌}
+use Rattle.std.proofs.Common.{◌≡◌, ℕ, ◌<◌, ◌≤◌, true, false, List, length, Some, None, sym, refl, ap, ◌∙◌}
 use Rattle.std.proofs.lemmas.Bool.{false≢true, eqb-true, ne_eqb}
 use Rattle.lexer.specs.declared.token.Symbol.{Symbol}
 use Rattle.lexer.specs.declared.token.Token.{Token}
@@ -98,7 +98,7 @@ word_not_line (token.Temporal o) e = refl
 word_not_line (token.Number n) e = refl
 word_not_line (token.Symbol own) e = refl
 
-pub word_begins : (k : Token) → is_word k ≡ true → head_of k ≡ head.Variable
+pub word_begins : (k : Token) → is_word k ≡ true → head_of k ≡ Some head.Variable
 word_begins token.End e = absurd (false≢true e)
 word_begins token.Line e = absurd (false≢true e)
 word_begins token.Unknown e = absurd (false≢true e)
@@ -118,7 +118,7 @@ true_not_line (token.Temporal o) e = refl
 true_not_line (token.Number n) e = refl
 true_not_line (token.Symbol own) e = refl
 
-begins_not_line : (k : Token) → (head_of k ≡ head.Wrong → ⊥) → is_line k ≡ false
+begins_not_line : (k : Token) → (head_of k ≡ None → ⊥) → is_line k ≡ false
 begins_not_line token.End h = refl
 begins_not_line token.Line h = absurd (h refl)
 begins_not_line token.Unknown h = refl
@@ -128,15 +128,8 @@ begins_not_line (token.Temporal o) h = refl
 begins_not_line (token.Number n) h = refl
 begins_not_line (token.Symbol own) h = refl
 
-abbrev pub right_head : Head → Bool
-right_head head.Wrong = false
-right_head (head.Constant b) = true
-right_head head.Variable = true
-right_head (head.Prefix u) = true
-right_head head.Group = true
-
-pub head_not_line : (k : Token) (h : Head) → head_of k ≡ h → right_head h ≡ true → is_line k ≡ false
-head_not_line k h e r = begins_not_line k (λ w. false≢true (sym (ap right_head w) ∙ ap right_head e ∙ r))
+pub head_not_line : (k : Token) (h : Head) → head_of k ≡ Some h → is_line k ≡ false
+head_not_line k h e = begins_not_line k (λ w. cc)
 
 module _ (text : List ℕ) (at : ℕ) where
   -- a symbol or a line end has bytes

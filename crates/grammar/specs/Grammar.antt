@@ -1,5 +1,5 @@
 -- The formula that a text holds from a place on, by recursive descent.
-use Rattle.std.specs.Prelude.{ℕ, zero, suc, ◌-◌, true, false, cond, List, length, Ok, Err, Result, nat_lt}
+use Rattle.std.specs.Prelude.{ℕ, zero, suc, ◌-◌, true, false, cond, List, length, Some, None, Ok, Err, Option, Result, nat_lt}
 use Rattle.faults.specs.declared.Reason.{Reason}
 use Rattle.faults.specs.declared.Reason.TheVariants as reason
 use Rattle.faults.specs.declared.TextFault.{TextFault}
@@ -30,26 +30,26 @@ use Rattle.grammar.specs.Numbering.{rank, extended, variable_of}
 use Rattle.nodes.specs.Trees.{constant_of, apply, join}
 
 -- how a formula may begin
-abbrev pub symbol_head : Symbol → Head
-symbol_head symbol.Not = head.Prefix unary.Not
-symbol_head symbol.And = head.Wrong
-symbol_head symbol.Or = head.Wrong
-symbol_head symbol.Implies = head.Wrong
-symbol_head symbol.Equivalent = head.Wrong
-symbol_head symbol.Open = head.Group
-symbol_head symbol.Close = head.Wrong
-symbol_head symbol.Left = head.Wrong
-symbol_head symbol.Right = head.Wrong
-symbol_head symbol.Comma = head.Wrong
+abbrev pub symbol_head : Symbol → Option Head
+symbol_head symbol.Not = Some (head.Prefix unary.Not)
+symbol_head symbol.And = None
+symbol_head symbol.Or = None
+symbol_head symbol.Implies = None
+symbol_head symbol.Equivalent = None
+symbol_head symbol.Open = Some head.Group
+symbol_head symbol.Close = None
+symbol_head symbol.Left = None
+symbol_head symbol.Right = None
+symbol_head symbol.Comma = None
 
-abbrev pub head_of : Token → Head
-head_of token.End = head.Wrong
-head_of token.Line = head.Wrong
-head_of token.Unknown = head.Wrong
-head_of token.Word = head.Variable
-head_of (token.Constant b) = head.Constant b
-head_of (token.Temporal o) = head.Prefix (unary.Temporal o)
-head_of (token.Number n) = head.Wrong
+abbrev pub head_of : Token → Option Head
+head_of token.End = None
+head_of token.Line = None
+head_of token.Unknown = None
+head_of token.Word = Some head.Variable
+head_of (token.Constant b) = Some (head.Constant b)
+head_of (token.Temporal o) = Some (head.Prefix (unary.Temporal o))
+head_of (token.Number n) = None
 head_of (token.Symbol s) = symbol_head s
 
 abbrev pub symbol_of : Connective → Symbol
@@ -137,12 +137,13 @@ named n x s =
 abbrev pub closed : Written → State → Lexeme → Out
 closed t s x = elim (is_symbol symbol.Close x.token) [ true ↦ good t (moved s x.next) | false ↦ misplaced x ]
 
-abbrev pub begun : List ℕ → Inside → Lexeme → State → Head → Out
-begun text d x s head.Wrong = misplaced x
-begun text d x s (head.Constant b) = good (constant_of b) (moved s x.next)
-begun text d x s head.Variable = named (word_name text x) x s
-begun text d x s (head.Prefix u) = behind text d u x s
-begun text d x s head.Group = and_then (whole_in d x.from (moved s x.next)) (λ t s'. closed t s' (look_at text s'.at))
+-- what stands at s, by how the token x begins it
+abbrev pub begun : List ℕ → Inside → Lexeme → State → Option Head → Out
+begun text d x s None = misplaced x
+begun text d x s (Some (head.Constant b)) = good (constant_of b) (moved s x.next)
+begun text d x s (Some head.Variable) = named (word_name text x) x s
+begun text d x s (Some (head.Prefix u)) = behind text d u x s
+begun text d x s (Some head.Group) = and_then (whole_in d x.from (moved s x.next)) (λ t s'. closed t s' (look_at text s'.at))
 
 -- a formula up to unary operators
 unfoldable pub unary_by : List ℕ → Inside → Parser

@@ -74,15 +74,15 @@ operand_level connective.Equivalent = up_to connective.Implies
 -- from state a to state b the text shows the formula t at a level, with nesting for at most n. `&` and `|` group from the left,
 -- `->` from the right, `<->` does not chain; parentheses, unary operators and the right sides of arrows take nesting
 pub data Shows (text : List ℕ) : Level → ℕ → State → State → Written → Type 0 where
-  shows_constant : {n : ℕ} {a : State} (b : Bool) → head_of (look_at text a.at).token ≡ head.Constant b
+  shows_constant : {n : ℕ} {a : State} (b : Bool) → head_of (look_at text a.at).token ≡ Some (head.Constant b)
       → Shows text unary n a (moved a (look_at text a.at).next) (constant_of b)
-  shows_variable : {n : ℕ} {a : State} (x : Name) → head_of (look_at text a.at).token ≡ head.Variable
+  shows_variable : {n : ℕ} {a : State} (x : Name) → head_of (look_at text a.at).token ≡ Some head.Variable
       → x ≡ word_name text (look_at text a.at) → rank x a.names < 16
       → Shows text unary n a (record { at = (look_at text a.at).next; names = extended x a.names }) (variable (variable_of x a.names))
-  shows_unary : {n : ℕ} {a b : State} {t : Written} (u : Unary) (next : ℕ) (p : Prefix) → head_of (look_at text a.at).token ≡ head.Prefix u
+  shows_unary : {n : ℕ} {a b : State} {t : Written} (u : Unary) (next : ℕ) (p : Prefix) → head_of (look_at text a.at).token ≡ Some (head.Prefix u)
       → Bounds text u (look_at text a.at).next next p → Shows text unary n (moved a next) b t
       → Shows text unary (suc n) a b (apply p t)
-  shows_group : {n : ℕ} {a b : State} {t : Written} → head_of (look_at text a.at).token ≡ head.Group
+  shows_group : {n : ℕ} {a b : State} {t : Written} → head_of (look_at text a.at).token ≡ Some head.Group
       → Shows text (up_to connective.Equivalent) n (moved a (look_at text a.at).next) b t
       → is_symbol symbol.Close (look_at text b.at).token ≡ true → Shows text unary (suc n) a (moved b (look_at text b.at).next) t
   shows_operand : {n : ℕ} {a b : State} {t : Written} (c : Connective) → Shows text (operand_level c) n a b t → Shows text (up_to c) n a b t

@@ -7,46 +7,44 @@ use lexer::bounds::{read_bound, read_range};
 use lexer::token::{Operator, Symbol, Token};
 use nodes::node::{Connective, Prefix};
 
-// A unary operator whose bounds are still to be read.
-#[derive(Clone, Copy)]
+/// A unary operator whose bounds are still to be read.
+#[derive(Clone, Copy, PartialEq, Eq, Debug)]
 pub enum Unary {
     Not,
     Temporal(Operator),
 }
 
-// How a formula may begin: with a constant, a variable, a unary operator or a parenthesis, and with nothing else.
-#[derive(Clone, Copy)]
+/// How a formula may begin: with a constant, a variable, a unary operator or a parenthesis, and with nothing else.
+#[derive(Clone, Copy, PartialEq, Eq, Debug)]
 pub enum Head {
-    Wrong,
     Constant(bool),
     Variable,
     Prefix(Unary),
     Group,
 }
 
-pub fn head_of(token: Token) -> Head
+/// How a formula begins that begins with this token, if one does.
+pub fn head_of(token: Token) -> Option<Head>
     ensures { result ≡ head_of token }
 {
     match token {
-        Token::Constant(value) => Head::Constant(value),
-        Token::Word => Head::Variable,
-        Token::Temporal(operator) => Head::Prefix(Unary::Temporal(operator)),
-        Token::Symbol(symbol) => match symbol {
-            Symbol::Not => Head::Prefix(Unary::Not),
-            Symbol::Open => Head::Group,
-            _ => Head::Wrong,
-        },
-        _ => Head::Wrong,
+        Token::Constant(value) => Some(Head::Constant(value)),
+        Token::Word => Some(Head::Variable),
+        Token::Temporal(operator) => Some(Head::Prefix(Unary::Temporal(operator))),
+        Token::Symbol(Symbol::Not) => Some(Head::Prefix(Unary::Not)),
+        Token::Symbol(Symbol::Open) => Some(Head::Group),
+        _ => None,
     }
 }
 
-// A unary operator that was read with its bounds, and where the text goes on.
+/// A unary operator that was read with its bounds, and where the text goes on.
 #[derive(Clone, Copy)]
 pub struct Prefixed {
     pub prefix: Prefix,
     pub next: usize,
 }
 
+/// The symbol that writes a binary operator.
 pub fn symbol_of(connective: Connective) -> Symbol
     ensures { result ≡ symbol_of connective }
 {
@@ -58,7 +56,7 @@ pub fn symbol_of(connective: Connective) -> Symbol
     }
 }
 
-// The bounds behind a unary operator: none behind `-`, `[n]` or nothing behind X, `[n,m]` behind G and F.
+/// The bounds behind a unary operator: none behind `-`, `[n]` or nothing behind X, `[n,m]` behind G and F.
 pub fn read_prefix(text: &[u8], unary: Unary, at: usize) -> Result<Prefixed, TextFault>
     ensures { result ≡ prefix_in text.now unary at }
 {
