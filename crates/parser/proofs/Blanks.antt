@@ -1,5 +1,5 @@
--- Blank lines, line ends and the third section's header.
-use Rattle.std.proofs.Common.{◌≡◌, ℕ, zero, suc, ◌-◌, ◌<◌, Bool, true, false, ◌&&◌, List, length, Ok, Err, codes, Result, sym, refl, ap, ◌∙◌, subst, ⊎_elim, arith, rules}
+-- Blank lines, line ends and headers.
+use Rattle.std.proofs.Common.{◌≡◌, ℕ, zero, suc, ◌-◌, ◌<◌, Bool, true, false, List, length, Ok, Err, Result, sym, refl, ap, ◌∙◌, subst, ⊎_elim, arith, rules}
 use Rattle.std.proofs.lemmas.Bool.{cases_Bool}
 use Rattle.faults.specs.declared.TextFault.{TextFault}
 use Rattle.lexer.specs.declared.token.Lexeme.{Lexeme}
@@ -9,7 +9,7 @@ use Rattle.lexer.specs.Tokens.{is_line, is_end}
 use Rattle.lexer.specs.Bounds.{WhenOk}
 use Rattle.lexer.proofs.Limits.{On, both_on, when_ok}
 use Rattle.lexer.proofs.Looks.{look_next, look_in_text, look_forward}
-use Rattle.grammar.specs.Sections.{is_this, expected, then_at, past_lines, blanks, word_in, line_in, header_in, third_begins}
+use Rattle.grammar.specs.Sections.{is_this, expected, then_at, past_lines, blanks, word_in, line_in, header_in}
 
 -- past blank lines
 
@@ -54,17 +54,6 @@ module _ (text : List ℕ) where
   pub blanks_on : (at : ℕ) → On text at (blanks text at)
   unfolding blanks
   blanks_on at = past_on (length text) at
-
--- the third section's header
-
-pub third_is :
-    (text : List ℕ) (at : ℕ) (x : Lexeme) → x ≡ look_at text at → (y : Lexeme) → y ≡ look_at text x.next → (b : Bool) →
-    b ≡ is_this text (codes "Environment") x → third_begins text at ≡ (b && is_this text (codes "Global") y)
-unfolding third_begins
-third_is text at x is y on b e =
-    ap (λ z. is_this text (codes "Environment") z && is_this text (codes "Global") (look_at text z.next)) (sym is)
-    ∙ ap (λ z. is_this text (codes "Environment") x && is_this text (codes "Global") z) (sym on)
-    ∙ ap (λ v. v && is_this text (codes "Global") y) (sym e)
 
 -- behind a word, a line's end, a header
 

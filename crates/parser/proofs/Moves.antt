@@ -16,22 +16,24 @@ use Rattle.parser.specs.declared.table.Names.{Names}
 use Rattle.parser.specs.Naming.{names_of, Known, Has}
 use Rattle.parser.specs.Reading.{tree_at, state_at, Ready, Went, Reads, Pushed}
 
-module _ {text : List ℕ} {slots : List (Slot Name)} {s : Reader} {at : ℕ} (r : Ready text slots s at) where
-  pub ready_on : (n : ℕ) → at ≤ n → n ≤ length text → Ready text slots s n
-  ready_on n h k = record { short = r.short; in_text = k; few = omega (arith, r.few); ordered = r.ordered; known = r.known }
+module _ {slots : List (Slot Name)} {s : Reader} {at : ℕ} (r : Ready slots s at) where
+  pub ready_on : (n : ℕ) → at ≤ n → Ready slots s n
+  ready_on n h = record { few = omega (arith, r.few); ordered = r.ordered; known = r.known }
 
   pub ready_behind :
-      {spare : ℕ} {s' : Reader} {slots' : List (Slot Name)} {p : Part} → Went spare text at s s' slots' p → Ready text slots' s' p.next
-  ready_behind w =
-      record { short = r.short; in_text = w.in_text; few = omega (arith, r.few, w.few); ordered = w.ordered; known = w.known }
+      {text : List ℕ} {spare : ℕ} {s' : Reader} {slots' : List (Slot Name)} {p : Part} → Went spare text at s s' slots' p →
+      Ready slots' s' p.next
+  ready_behind w = record { few = omega (arith, r.few, w.few); ordered = w.ordered; known = w.known }
 
   -- there is room for one more node
-  pub room_behind : {s' : Reader} {slots' : List (Slot Name)} {p : Part} → Went 1 text at s s' slots' p → s'.count < 1024
-  room_behind w = omega (arith, r.short, r.few, w.few, w.in_text)
+  pub room_behind :
+      {text : List ℕ} {s' : Reader} {slots' : List (Slot Name)} {p : Part} → length text ≤ 1024 → Went 1 text at s s' slots' p →
+      s'.count < 1024
+  room_behind short w = omega (arith, short, r.few, w.few, w.in_text)
 
   -- a first node, for a token
   pub went_node :
-      {s' : Reader} {x : Node} {n : ℕ} {p : Part} → at < n → n ≤ length text → parts_below s.count x ≡ true →
+      {text : List ℕ} {s' : Reader} {x : Node} {n : ℕ} {p : Part} → at < n → n ≤ length text → parts_below s.count x ≡ true →
       Pushed s x n s' p → Went 0 text at s s' slots p
   went_node lt le b p = record {
     onward = omega (arith, p.next);
@@ -82,6 +84,19 @@ module _ {spare : ℕ} {text : List ℕ} {at : ℕ} {s s' : Reader} {slots : Lis
     root = omega (arith, w.root);
     grown = w.grown;
     kept = w.kept;
+    ordered = w.ordered;
+    known = w.known;
+  }
+
+  -- behind a part nothing has been read yet
+  pub went_here : Went spare text at s s' slots p → Went 0 text p.next s' s' slots p
+  went_here w = record {
+    onward = omega arith;
+    in_text = w.in_text;
+    few = omega arith;
+    root = w.root;
+    grown = omega arith;
+    kept = λ i h. refl;
     ordered = w.ordered;
     known = w.known;
   }
@@ -142,12 +157,11 @@ renamed s n = record { nodes = s.nodes; count = s.count; names = n }
 
 pub variable_read :
     {text : List ℕ} {slots slots' : List (Slot Name)} {s s' : Reader} {at : ℕ} (x : Lexeme) {n : Names} {name : Name} {v : ℕ} {p : Part} →
-    Ready text slots s at → at ≤ x.from → x.from < x.next → x.next ≤ length text → Has s.names name slots' n v →
+    Ready slots s at → at ≤ x.from → x.from < x.next → x.next ≤ length text → Has s.names name slots' n v →
     Pushed (renamed s n) (node.Variable v) x.next s' p →
     (named name x (state_at s at) ≡ good (tree_at s' p.root) (state_at s' p.next)) × Went 0 text at s s' slots' p
 variable_read {text} {slots} {slots'} {s} {s'} {at} x {n} {name} {v} {p} r a b d h p' =
-    let r' : Ready text slots' (renamed s n) at =
-    record { short = r.short; in_text = r.in_text; few = r.few; ordered = r.ordered; known = h.known } in
+    let r' : Ready slots' (renamed s n) at = record { few = r.few; ordered = r.ordered; known = h.known } in
     let w = went_node r' (omega arith) d refl p' in (
       cond-true _ _ _ (lt-ltb _ _ h.few)
           ∙ good_is s' p _ _ _ (p'.top ∙ ap variable h.variable) p'.next (ap names_of p'.names ∙ h.names),

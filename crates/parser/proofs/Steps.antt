@@ -1,5 +1,7 @@
 -- The steps of the descent, as the grammar takes them.
-use Rattle.std.proofs.Common.{◌≡◌, ℕ, zero, suc, ◌-◌, ◌<◌, Bool, true, false, List, length, Ok, Result, sym, refl, ap, ◌∙◌, ⊎_elim, arith, rules}
+use Rattle.std.proofs.Common.{◌≡◌, ℕ, zero, suc, ◌-◌, ◌<◌, ◌≤◌, Bool, true, false, List, length, Some, None, Ok, Err, Option, Result, sym, refl, ap, ◌∙◌, ⊎_elim, arith, rules}
+use Rattle.std.specs.Option.{ok_or}
+use Rattle.std.proofs.lemmas.Bool.{cases_lt}
 use Rattle.faults.specs.declared.Reason.TheVariants as reason
 use Rattle.faults.specs.declared.TextFault.{TextFault}
 use Rattle.lexer.specs.declared.token.Lexeme.{Lexeme}
@@ -7,7 +9,8 @@ use Rattle.lexer.specs.declared.token.Symbol.{Symbol}
 use Rattle.lexer.specs.declared.token.Symbol.TheVariants as symbol
 use Rattle.lexer.specs.declared.token.Token.{Token}
 use Rattle.lexer.specs.Lexer.{look_at, Sees}
-use Rattle.lexer.specs.Tokens.{is_symbol, is_end}
+use Rattle.lexer.specs.Tokens.{is_symbol, is_line, is_end}
+use Rattle.lexer.proofs.Looks.{look_past}
 use Rattle.temporal.specs.Written.{Written}
 use Rattle.nodes.specs.declared.node.Connective.{Connective}
 use Rattle.nodes.specs.declared.node.Connective.TheVariants as connective
@@ -28,16 +31,12 @@ inside_none text zero e = refl
 inside_none text (suc n) e = absurd (omega arith)
 
 inside_some :
-    (text : List ℕ) (n : ℕ) → 0 < n →
+    (text : List ℕ) (n m : ℕ) → n ≡ suc m →
     inside text n
-    ≡ room (unary_by text (inside text (n - 1))) (arrow_of text (inside text (n - 1)) connective.Implies)
-    (arrow_of text (inside text (n - 1)) connective.Equivalent)
+    ≡ room (unary_by text (inside text m)) (arrow_of text (inside text m) connective.Implies)
+    (arrow_of text (inside text m) connective.Equivalent)
 unfolding inside
-inside_some text zero h = absurd (omega arith)
-inside_some text (suc n) h =
-    let e : n ≡ suc n - 1 = omega arith in
-    ap (λ k. room (unary_by text (inside text k)) (arrow_of text (inside text k) connective.Implies)
-    (arrow_of text (inside text k) connective.Equivalent)) e
+inside_some text n m e = ap (inside text) e
 
 -- up to unary operators
 
@@ -45,45 +44,46 @@ abbrev close_of : Bool → Written → State → Lexeme → Out
 close_of b t s x = elim b [ true ↦ good t (moved s x.next) | false ↦ misplaced x ]
 
 module _ (text : List ℕ) (n : ℕ) (s : State) (x : Lexeme) (is : x ≡ look_at text s.at) where
-  pub unary_is : (h : Head) → h ≡ head_of x.token → unary_by text (inside text n) s ≡ begun text (inside text n) x s h
+  pub unary_is : (h : Option Head) → h ≡ head_of x.token → unary_by text (inside text n) s ≡ begun text (inside text n) x s h
   unfolding unary_by
   unary_is h e =
       sym (ap (λ k. begun text (inside text n) x s k) e ∙ ap (λ y. begun text (inside text n) y s (head_of y.token)) is)
 
   pub prefix_full :
-      (u : Unary) → head.Prefix u ≡ head_of x.token → n ≡ 0 → unary_by text (inside text n) s ≡ refuse reason.Nesting x.from
-  prefix_full u e z = unary_is (head.Prefix u) e ∙ ap (λ d. begun text d x s (head.Prefix u)) (inside_none text n z)
+      (u : Unary) → Some (head.Prefix u) ≡ head_of x.token → n ≡ 0 → unary_by text (inside text n) s ≡ refuse reason.Nesting x.from
+  prefix_full u e z = unary_is (Some (head.Prefix u)) e ∙ ap (λ d. begun text d x s (Some (head.Prefix u))) (inside_none text n z)
 
-  pub prefix_on :
-      (u : Unary) → head.Prefix u ≡ head_of x.token → 0 < n → (r : Result Prefixed TextFault) → prefix_in text u x.next ≡ r →
-      unary_by text (inside text n) s ≡ prefixed r (unary_by text (inside text (n - 1))) s
-  prefix_on u e lt r h =
-      unary_is (head.Prefix u) e ∙ ap (λ d. begun text d x s (head.Prefix u)) (inside_some text n lt)
-      ∙ ap (λ q. prefixed q (unary_by text (inside text (n - 1))) s) h
+  pub group_full : Some head.Group ≡ head_of x.token → n ≡ 0 → unary_by text (inside text n) s ≡ refuse reason.Nesting x.from
+  group_full e z = unary_is (Some head.Group) e ∙ ap (λ d. begun text d x s (Some head.Group)) (inside_none text n z)
 
-  pub prefix_then :
-      (u : Unary) → head.Prefix u ≡ head_of x.token → 0 < n → (p : Prefixed) → prefix_in text u x.next ≡ Ok p → (o : Out) →
-      unary_by text (inside text (n - 1)) (moved s p.next) ≡ o →
-      unary_by text (inside text n) s ≡ and_then o (λ t s'. good (apply p.prefix t) s')
-  prefix_then u e lt p h o k = prefix_on u e lt (Ok p) h ∙ ap (λ z. and_then z (λ t s'. good (apply p.prefix t) s')) k
+  -- with nesting for m inside
+  module _ (m : ℕ) (deep : n ≡ suc m) where
+    pub prefix_on :
+        (u : Unary) → Some (head.Prefix u) ≡ head_of x.token → (r : Result Prefixed TextFault) → prefix_in text u x.next ≡ r →
+        unary_by text (inside text n) s ≡ prefixed r (unary_by text (inside text m)) s
+    prefix_on u e r h =
+        unary_is (Some (head.Prefix u)) e ∙ ap (λ d. begun text d x s (Some (head.Prefix u))) (inside_some text n m deep)
+        ∙ ap (λ q. prefixed q (unary_by text (inside text m)) s) h
 
-  pub group_full : head.Group ≡ head_of x.token → n ≡ 0 → unary_by text (inside text n) s ≡ refuse reason.Nesting x.from
-  group_full e z = unary_is head.Group e ∙ ap (λ d. begun text d x s head.Group) (inside_none text n z)
+    pub prefix_then :
+        (u : Unary) → Some (head.Prefix u) ≡ head_of x.token → (p : Prefixed) → prefix_in text u x.next ≡ Ok p → (o : Out) →
+        unary_by text (inside text m) (moved s p.next) ≡ o →
+        unary_by text (inside text n) s ≡ and_then o (λ t s'. good (apply p.prefix t) s')
+    prefix_then u e p h o k = prefix_on u e (Ok p) h ∙ ap (λ z. and_then z (λ t s'. good (apply p.prefix t) s')) k
 
-  pub group_then :
-      head.Group ≡ head_of x.token → 0 < n → (o : Out) → arrow_of text (inside text (n - 1)) connective.Equivalent (moved s x.next)
-      ≡ o →
-      unary_by text (inside text n) s ≡ and_then o (λ t s'. closed t s' (look_at text s'.at))
-  group_then e lt o h =
-      unary_is head.Group e ∙ ap (λ d. begun text d x s head.Group) (inside_some text n lt)
-      ∙ ap (λ z. and_then z (λ t s'. closed t s' (look_at text s'.at))) h
+    pub group_then :
+        Some head.Group ≡ head_of x.token → (o : Out) → arrow_of text (inside text m) connective.Equivalent (moved s x.next) ≡ o →
+        unary_by text (inside text n) s ≡ and_then o (λ t s'. closed t s' (look_at text s'.at))
+    group_then e o h =
+        unary_is (Some head.Group) e ∙ ap (λ d. begun text d x s (Some head.Group)) (inside_some text n m deep)
+        ∙ ap (λ z. and_then z (λ t s'. closed t s' (look_at text s'.at))) h
 
-  pub group_closed :
-      head.Group ≡ head_of x.token → 0 < n → (t : Written) (s' : State) →
-      arrow_of text (inside text (n - 1)) connective.Equivalent (moved s x.next) ≡ good t s' → (y : Lexeme) → y ≡ look_at text s'.at →
-      (b : Bool) → b ≡ is_symbol symbol.Close y.token → unary_by text (inside text n) s ≡ close_of b t s' y
-  group_closed e lt t s' h y i b f =
-      group_then e lt _ h ∙ ap (λ z. closed t s' z) (sym i) ∙ ap (λ c. close_of c t s' y) (sym f)
+    pub group_closed :
+        Some head.Group ≡ head_of x.token → (t : Written) (s' : State) →
+        arrow_of text (inside text m) connective.Equivalent (moved s x.next) ≡ good t s' → (y : Lexeme) → y ≡ look_at text s'.at →
+        (b : Bool) → b ≡ is_symbol symbol.Close y.token → unary_by text (inside text n) s ≡ close_of b t s' y
+    group_closed e t s' h y i b f =
+        group_then e _ h ∙ ap (λ z. closed t s' z) (sym i) ∙ ap (λ c. close_of c t s' y) (sym f)
 
 -- operands joined from the left
 
@@ -154,11 +154,11 @@ module _ (text : List ℕ) (n : ℕ) (c : Connective) (s : State) where
       arrow_full e z = arrow_is true e ∙ ap (λ d. arrow_of_lem true c d t s₁ x) (inside_none text n z)
 
       pub arrow_then :
-          true ≡ is_symbol (symbol_of c) x.token → 0 < n → (o : Out) →
-          arrow_of text (inside text (n - 1)) connective.Implies (moved s₁ x.next) ≡ o →
+          true ≡ is_symbol (symbol_of c) x.token → (m : ℕ) → n ≡ suc m → (o : Out) →
+          arrow_of text (inside text m) connective.Implies (moved s₁ x.next) ≡ o →
           arrow_of text (inside text n) c s ≡ and_then o (λ u s'. good (join c t u) s')
-      arrow_then e lt o k =
-          arrow_is true e ∙ ap (λ d. arrow_of_lem true c d t s₁ x) (inside_some text n lt)
+      arrow_then e m deep o k =
+          arrow_is true e ∙ ap (λ d. arrow_of_lem true c d t s₁ x) (inside_some text n m deep)
           ∙ ap (λ z. and_then z (λ u s'. good (join c t u) s')) k
 
 -- a token that is not the end has bytes
@@ -166,33 +166,35 @@ module _ (text : List ℕ) (n : ℕ) (c : Connective) (s : State) where
 symbol_not_end : (s : Symbol) (t : Token) → true ≡ is_symbol s t → is_end t ≡ true → ⊥
 symbol_not_end s t e f = search rules
 
-constant_not_end : (b : Bool) (t : Token) → head.Constant b ≡ head_of t → is_end t ≡ true → ⊥
-constant_not_end b t e f = search rules
+line_not_end : (t : Token) → true ≡ is_line t → is_end t ≡ true → ⊥
+line_not_end t e f = search rules
 
-variable_not_end : (t : Token) → head.Variable ≡ head_of t → is_end t ≡ true → ⊥
-variable_not_end t e f = search rules
-
-prefix_not_end : (u : Unary) (t : Token) → head.Prefix u ≡ head_of t → is_end t ≡ true → ⊥
-prefix_not_end u t e f = search rules
-
-group_not_end : (t : Token) → head.Group ≡ head_of t → is_end t ≡ true → ⊥
-group_not_end t e f = search rules
+head_not_end : (h : Head) (t : Token) → Some h ≡ head_of t → is_end t ≡ true → ⊥
+head_not_end h t e f = search rules
 
 module _ {text : List ℕ} {at : ℕ} {x : Lexeme} (v : Sees text at x) where
-  pub reads : (is_end x.token ≡ true → ⊥) → x.from < x.next
+  reads : (is_end x.token ≡ true → ⊥) → x.from < x.next
   reads h = ⊎_elim (λ f. absurd (h f)) (λ lt. lt) v.more
 
   pub symbol_reads : (s : Symbol) → true ≡ is_symbol s x.token → x.from < x.next
   symbol_reads s e = reads (symbol_not_end s x.token e)
 
-  pub constant_reads : (b : Bool) → head.Constant b ≡ head_of x.token → x.from < x.next
-  constant_reads b e = reads (constant_not_end b x.token e)
+  pub head_reads : (h : Head) → Some h ≡ head_of x.token → x.from < x.next
+  head_reads h e = reads (head_not_end h x.token e)
 
-  pub variable_reads : head.Variable ≡ head_of x.token → x.from < x.next
-  variable_reads e = reads (variable_not_end x.token e)
+  -- and stands in the text, wherever it was looked for
+  ends_inside : (is_end x.token ≡ true → ⊥) → x.next ≤ length text
+  ends_inside h =
+      ⊎_elim (λ lt. v.in_text (omega arith))
+      (λ past. absurd (h (ap (λ y. is_end y.token) v.value ∙ sym (ap (λ y. is_end y.token) (look_past text at past)))))
+      (cases_lt at (length text))
 
-  pub prefix_reads : (u : Unary) → head.Prefix u ≡ head_of x.token → x.from < x.next
-  prefix_reads u e = reads (prefix_not_end u x.token e)
+  pub line_inside : true ≡ is_line x.token → (at < x.next) × (x.next ≤ length text)
+  line_inside e =
+      let lt = reads (line_not_end x.token e) in
+      (omega (arith, v.after, lt), ends_inside (line_not_end x.token e))
 
-  pub group_reads : head.Group ≡ head_of x.token → x.from < x.next
-  group_reads e = reads (group_not_end x.token e)
+-- what `ok_or` refuses
+pub none_refused : {X E : Type 0} (o : Option X) (e f : E) → Err f ≡ ok_or o e → (o ≡ None) × (f ≡ e)
+none_refused None e f h = (refl, cc)
+none_refused (Some x) e f h = absurd cc

@@ -1,6 +1,7 @@
 -- One more node at the end of a list of nodes.
 use Rattle.std.proofs.Common.{◌≡◌, ℕ, suc, ◌+◌, true, List, [], ◌∷◌, ◌++◌, length, get_or, fold, sym, refl, ap, ◌∙◌, arith}
 use Rattle.std.proofs.lemmas.List.{get_or_append_left, get_or_push, length_push}
+use Rattle.std.proofs.lemmas.List.Sums.{fold_push}
 use Rattle.std.proofs.lemmas.Bool.{and_parts, and_from}
 use Rattle.temporal.specs.Written.{Written, truth}
 use Rattle.nodes.specs.declared.node.Node.{Node}
@@ -9,12 +10,8 @@ use Rattle.parser.specs.declared.reader.Reader.{Reader}
 use Rattle.parser.specs.declared.reader.Part.{Part}
 use Rattle.parser.specs.Reading.{listed, Pushed}
 
-folded_push : {A B : Type 0} (f : A → B → A) (a : A) (xs : List B) (x : B) → fold f a (xs ++ x ∷ []) ≡ f (fold f a xs) x
-folded_push f a [] x = refl
-folded_push f a (y ∷ ys) x = folded_push f (f a y) ys x
-
 trees_push : (ns : List Node) (x : Node) → trees_of (ns ++ x ∷ []) ≡ trees_of ns ++ grow (trees_of ns) x ∷ []
-trees_push ns x = folded_push _ [] ns x
+trees_push ns x = fold_push _ [] ns x
 
 grown_long : (ts : List Written) (ns : List Node) → length (fold (λ us n. us ++ grow us n ∷ []) ts ns) ≡ length ts + length ns
 grown_long ts [] = omega arith

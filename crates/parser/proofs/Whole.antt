@@ -1,6 +1,6 @@
 -- A whole text: its length, and what the reader hands over.
-use Rattle.std.proofs.Common.{◌≡◌, ℕ, true, false, ltb, List, length, get_or, take, IsErrAnd, Ok, Err, Result, sym, ap, ◌∙◌, subst}
-use Rattle.std.proofs.lemmas.Bool.{cond-true, cond-false}
+use Rattle.std.proofs.Common.{◌≡◌, ℕ, ◌<◌, ◌≤◌, List, length, get_or, take, IsErrAnd, Ok, Err, Result, sym, ap, ◌∙◌, subst}
+use Rattle.std.proofs.lemmas.Bool.{cond-true, cond-false, lt-ltb, le-ltb}
 use Rattle.faults.specs.declared.Reason.TheVariants as reason
 use Rattle.faults.specs.declared.TextFault.{TextFault}
 use Rattle.temporal.specs.Written.{truth}
@@ -15,13 +15,13 @@ use Rattle.parser.specs.Reading.{tree_at}
 use Rattle.parser.specs.Parsing.{Forms, Holds, Kept}
 
 module _ (text : List ℕ) where
-  pub long_form : true ≡ ltb 1024 (length text) → form_of text ≡ refused (record { reason = reason.TooLong; place = 1024 })
+  pub long_form : 1024 < length text → form_of text ≡ refused (record { reason = reason.TooLong; place = 1024 })
   unfolding form_of
-  long_form e = cond-true _ _ _ (sym e)
+  long_form h = cond-true _ _ _ (lt-ltb _ _ h)
 
-  pub short_form : false ≡ ltb 1024 (length text) → form_of text ≡ sections_of text
+  pub short_form : length text ≤ 1024 → form_of text ≡ sections_of text
   unfolding form_of
-  short_form e = cond-false _ _ _ (sym e)
+  short_form h = cond-false _ _ _ (le-ltb _ _ h)
 
 -- the refusal of the sections, handed on
 pub hands_on : (o : Form) (f : TextFault) (r : Result Parsed TextFault) → IsErrAnd r (λ y. y ≡ f) → o ≡ refused f → Forms o r

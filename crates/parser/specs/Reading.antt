@@ -1,8 +1,9 @@
 -- What a reader holds, and what it did when it read a formula.
-use Rattle.std.specs.Prelude.{◌≡◌, ℕ, ◌+◌, ◌<◌, ◌≤◌, true, List, [], length, take, Ok, Err, Result, slice_index_or}
-use Rattle.faults.specs.declared.Reason.{Reason}
+use Rattle.std.specs.Prelude.{◌≡◌, ℕ, suc, ◌+◌, ◌<◌, ◌≤◌, true, List, [], length, take, Ok, Err, Result, slice_index_or}
+use Rattle.faults.specs.declared.Reason.TheVariants as reason
 use Rattle.faults.specs.declared.TextFault.{TextFault}
 use Rattle.lexer.specs.declared.token.Lexeme.{Lexeme}
+use Rattle.lexer.specs.Tokens.{fault_of}
 use Rattle.index.specs.declared.Slot.{Slot}
 use Rattle.names.specs.declared.Name.{Name}
 use Rattle.temporal.specs.Written.{Written, truth}
@@ -11,13 +12,11 @@ use Rattle.nodes.specs.declared.node.Node.{Node}
 use Rattle.nodes.specs.Trees.{grow, trees_of, parts_below, ordered as in_order}
 use Rattle.grammar.specs.Grammar.{State, Out, Parser, good, stop, named, word_name, unary_by, operand_by, chain_of, arrow_of, inside}
 use Rattle.grammar.specs.Sections.{Form, formed, refused}
+use Rattle.parser.specs.declared.reader.Cursor.{Cursor}
 use Rattle.parser.specs.declared.reader.Reader.{Reader}
 use Rattle.parser.specs.declared.reader.Part.{Part}
 use Rattle.parser.specs.declared.reader.Roots.{Roots}
 use Rattle.parser.specs.Naming.{Known, Numbered, names_of}
-
-abbrev pub fault_of : Reason → Lexeme → TextFault
-fault_of r x = record { reason = r; place = x.from }
 
 -- the nodes so far, and the formula at a place among them
 abbrev pub listed : Reader → List Node
@@ -31,9 +30,7 @@ abbrev pub state_at : Reader → ℕ → State
 state_at s at = record { at = at; names = names_of s.names }
 
 -- A reader may read on at `at`: each node so far took a byte, parts stand before wholes, and the names are indexed.
-pub record Ready (text : List ℕ) (slots : List (Slot Name)) (s : Reader) (at : ℕ) : Type 0 where
-  pub short : length text ≤ 1024
-  pub in_text : at ≤ length text
+pub record Ready (slots : List (Slot Name)) (s : Reader) (at : ℕ) : Type 0 where
   pub few : s.count ≤ at
   pub ordered : in_order (listed s) ≡ true
   pub known : Known slots s.names
@@ -62,9 +59,14 @@ Reads spare o text at s s' slots (Ok p) =
     (o ≡ good (tree_at s' p.root) (state_at s' p.next)) × Went spare text at s s' slots p
 Reads spare o text at s s' slots (Err f) = o ≡ stop f
 
--- what the parser `by` makes of the text from the reader's state on
-abbrev pub ReadsBy : ℕ → (List ℕ → Parser) → List ℕ → ℕ → Reader → Reader → List (Slot Name) → Result Part TextFault → Type 0
-ReadsBy spare by text at s s' slots r = Reads spare (by text (state_at s at)) text at s s' slots r
+-- what the parser `by` makes of the text from the cursor c and the reader's state on
+abbrev pub ReadsBy : ℕ → (List ℕ → Parser) → Cursor → Reader → Reader → List (Slot Name) → Result Part TextFault → Type 0
+ReadsBy spare by c s s' slots r = Reads spare (by c.text.now (state_at s c.at)) c.text.now c.at s s' slots r
+
+-- the nesting left behind the opener x where n is left before it: one less, or a refusal where there is none
+abbrev pub Deeper : ℕ → Lexeme → Result ℕ TextFault → Type 0
+Deeper n x (Ok m) = n ≡ suc m
+Deeper n x (Err f) = (n ≡ 0) × (f ≡ fault_of reason.Nesting x)
 
 -- the grammar's parsers with nesting left for n
 abbrev pub unary_with : ℕ → List ℕ → Parser

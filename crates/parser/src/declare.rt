@@ -1,5 +1,5 @@
 // Variables are numbered by the first appearance of their names, each kind for itself.
-ghost use Rattle.std.specs.Prelude.{◌≡◌, ◌+◌, ◌<◌, not, [], if◌then◌else◌, nat_lt};
+ghost use Rattle.std.specs.Prelude.{◌≡◌, ◌+◌, ◌<◌, [], if◌then◌else◌};
 ghost use Rattle.parser.specs.Naming.{Appended, Declared, Known, Numbered, names_of};
 
 use super::table::Names;
@@ -11,13 +11,6 @@ const BLANK: Name = Name {
     bytes: [0; 15],
     length: 0,
 };
-
-// Whether a kind that has so many variables may have no more.
-fn is_full(variables: u8) -> bool
-    ensures { result ≡ not (nat_lt variables 16) }
-{
-    variables >= 16
-}
 
 // The variable that has so many of its kind before it.
 fn variable_of(environment: bool, rank: u8) -> u8
@@ -77,7 +70,7 @@ impl Names {
         }
         let environment = name.is_environment();
         let rank = self.used(environment);
-        if is_full(rank) {
+        if rank >= 16 {
             return None;
         }
         let variable = variable_of(environment, rank);

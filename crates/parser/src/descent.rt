@@ -1,8 +1,8 @@
 // The recursive descent: `left` is the nesting left.
 ghost use Rattle.parser.specs.Reading.{ReadsBy, Ready, arrow_with, chain_with, operand_with, unary_with};
 
-use super::leaves::{misplaced, too_deep};
-use super::reader::{Part, Reader};
+use super::leaves::deeper;
+use super::reader::{Cursor, Part, Reader};
 use faults::TextFault;
 use grammar::head::{Head, head_of, read_prefix, symbol_of};
 use index::Slot;
@@ -14,37 +14,30 @@ use nodes::node::{Connective, Node};
 impl Reader {
     // A formula up to unary operators.
     #[cycle(arrow_chain_operand_unary)]
-    fn unary(
-        &mut self,
-        text: &[u8],
-        slots: &mut [Slot<Name>],
-        at: usize,
-        left: u8,
-    ) -> Result<Part, TextFault>
-        requires { Ready text.now slots.old self.old at }
-        ensures { ReadsBy 0 (unary_with left) text.now at self.old self.new slots.new result }
+    fn unary(&mut self, slots: &mut [Slot<Name>], from: Cursor, left: u8) -> Result<Part, TextFault>
+        requires { Ready slots.old self.old from.at }
+        ensures { ReadsBy 0 (unary_with left) from.entry self.old self.new slots.new result }
     {
-        let seen = look(text, at);
-        match head_of(seen.token) {
-            Head::Wrong => Err(misplaced(seen)),
+        let text = from.text;
+        let seen = look(text, from.at);
+        let head = head_of(seen.token).ok_or(seen.misplaced())?;
+        match head {
             Head::Constant(value) => Ok(self.push(Node::Constant(value), seen.next)),
-            Head::Variable => self.variable(text, slots, seen, at),
+            Head::Variable => self.variable(slots, from, seen),
             Head::Prefix(operator) => {
-                if left == 0 {
-                    return Err(too_deep(seen));
-                }
+                let left = deeper(left, seen)?;
                 let prefixed = read_prefix(text, operator, seen.next)?;
-                let part = self.unary(text, slots, prefixed.next, left - 1)?;
+                let at = prefixed.next;
+                let part = self.unary(slots, Cursor { text, at }, left)?;
                 Ok(self.push(Node::Unary(prefixed.prefix, part.root), part.next))
             }
             Head::Group => {
-                if left == 0 {
-                    return Err(too_deep(seen));
-                }
-                let part = self.arrow(Connective::Equivalent, text, slots, seen.next, left - 1)?;
+                let left = deeper(left, seen)?;
+                let at = seen.next;
+                let part = self.arrow(Connective::Equivalent, slots, Cursor { text, at }, left)?;
                 let close = look(text, part.next);
                 if !close.token.is_symbol(Symbol::Close) {
-                    return Err(misplaced(close));
+                    return Err(close.misplaced());
                 }
                 Ok(Part {
                     root: part.root,
@@ -59,19 +52,18 @@ impl Reader {
     fn operand(
         &mut self,
         of: Connective,
-        text: &[u8],
         slots: &mut [Slot<Name>],
-        at: usize,
+        from: Cursor,
         left: u8,
     ) -> Result<Part, TextFault>
-        requires { Ready text.now slots.old self.old at }
-        ensures { ReadsBy 0 (operand_with left of) text.now at self.old self.new slots.new result }
+        requires { Ready slots.old self.old from.at }
+        ensures { ReadsBy 0 (operand_with left of) from.entry self.old self.new slots.new result }
     {
         match of {
-            Connective::And => self.unary(text, slots, at, left),
-            Connective::Or => self.chain(Connective::And, text, slots, at, left),
-            Connective::Implies => self.chain(Connective::Or, text, slots, at, left),
-            Connective::Equivalent => self.arrow(Connective::Implies, text, slots, at, left),
+            Connective::And => self.unary(slots, from, left),
+            Connective::Or => self.chain(Connective::And, slots, from, left),
+            Connective::Implies => self.chain(Connective::Or, slots, from, left),
+            Connective::Equivalent => self.arrow(Connective::Implies, slots, from, left),
         }
     }
 
@@ -80,24 +72,24 @@ impl Reader {
     fn chain(
         &mut self,
         by: Connective,
-        text: &[u8],
         slots: &mut [Slot<Name>],
-        at: usize,
+        from: Cursor,
         left: u8,
     ) -> Result<Part, TextFault>
-        requires { Ready text.now slots.old self.old at }
-        ensures { ReadsBy 0 (chain_with left by) text.now at self.old self.new slots.new result }
+        requires { Ready slots.old self.old from.at }
+        ensures { ReadsBy 0 (chain_with left by) from.entry self.old self.new slots.new result }
     {
-        let mut part = self.operand(by, text, slots, at, left)?;
-        for _i in 0..text.len() {
+        let text = from.text;
+        let mut part = self.operand(by, slots, from, left)?;
+        'operands: loop {
             let seen = look(text, part.next);
             if !seen.token.is_symbol(symbol_of(by)) {
                 return Ok(part);
             }
-            let right = self.operand(by, text, slots, seen.next, left)?;
-            part = self.push(Node::Binary(by, part.root, right.root), right.next);
+            let at = seen.next;
+            let right = self.operand(by, slots, Cursor { text, at }, left)?;
+            part = self.join(by, part, right);
         }
-        Ok(part)
     }
 
     // Two formulas joined by an arrow, or the first alone.
@@ -105,23 +97,22 @@ impl Reader {
     pub(crate) fn arrow(
         &mut self,
         by: Connective,
-        text: &[u8],
         slots: &mut [Slot<Name>],
-        at: usize,
+        from: Cursor,
         left: u8,
     ) -> Result<Part, TextFault>
-        requires { Ready text.now slots.old self.old at }
-        ensures { ReadsBy 0 (arrow_with left by) text.now at self.old self.new slots.new result }
+        requires { Ready slots.old self.old from.at }
+        ensures { ReadsBy 0 (arrow_with left by) from.entry self.old self.new slots.new result }
     {
-        let part = self.operand(by, text, slots, at, left)?;
+        let text = from.text;
+        let part = self.operand(by, slots, from, left)?;
         let seen = look(text, part.next);
         if !seen.token.is_symbol(symbol_of(by)) {
             return Ok(part);
         }
-        if left == 0 {
-            return Err(too_deep(seen));
-        }
-        let right = self.arrow(Connective::Implies, text, slots, seen.next, left - 1)?;
-        Ok(self.push(Node::Binary(by, part.root, right.root), right.next))
+        let left = deeper(left, seen)?;
+        let at = seen.next;
+        let right = self.arrow(Connective::Implies, slots, Cursor { text, at }, left)?;
+        Ok(self.join(by, part, right))
     }
 }

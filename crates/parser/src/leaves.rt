@@ -1,58 +1,32 @@
-// What the descent does besides descending: refusals, names and new nodes.
+// What the descent does besides descending: the nesting left, names and new nodes.
 ghost use Rattle.std.specs.Prelude.{◌≡◌, ◌<◌, ◌≤◌, length};
-ghost use Rattle.faults.specs.declared.Reason.TheVariants as reason;
-ghost use Rattle.lexer.specs.Tokens.{refusal_of};
+ghost use Rattle.nodes.specs.declared.node.Node.TheVariants as node;
 ghost use Rattle.grammar.specs.Grammar.{word_name};
 ghost use Rattle.parser.specs.Parsing.{Kept};
-ghost use Rattle.parser.specs.Reading.{Ahead, Begun, Pushed, ReadsBy, Ready, Rooted, fault_of, variable_with};
+ghost use Rattle.parser.specs.Reading.{Ahead, Begun, Deeper, Pushed, ReadsBy, Ready, Rooted, variable_with};
 
 use super::parsed::Parsed;
-use super::reader::{Part, Reader, Roots};
+use super::reader::{Cursor, Part, Reader, Roots};
 use super::table::Names;
 use faults::{Reason, TextFault};
 use index::Slot;
 use lexer::token::Lexeme;
 use names::Name;
-use nodes::node::Node;
+use nodes::node::{Connective, Node};
 use nodes::syntax::Syntax;
 
-// The refusal of a token that may not stand where it does.
-pub(crate) fn misplaced(seen: Lexeme) -> TextFault
-    ensures { result ≡ fault_of (refusal_of seen.token) seen }
+// The nesting left behind a token that takes one, or its refusal where none is left.
+pub(crate) fn deeper(left: u8, opener: Lexeme) -> Result<u8, TextFault>
+    ensures { Deeper left opener result }
 {
-    TextFault {
-        reason: seen.token.refusal(),
-        place: seen.from,
-    }
-}
-
-// The refusal of a token that opens more nesting than is left.
-pub(crate) fn too_deep(seen: Lexeme) -> TextFault
-    ensures { result ≡ fault_of reason.Nesting seen }
-{
-    TextFault {
-        reason: Reason::Nesting,
-        place: seen.from,
-    }
-}
-
-// The refusal of a variable past the last of its kind.
-fn too_many(seen: Lexeme) -> TextFault
-    ensures { result ≡ fault_of reason.Variables seen }
-{
-    TextFault {
-        reason: Reason::Variables,
-        place: seen.from,
-    }
+    left.checked_sub(1).ok_or(opener.fault(Reason::Nesting))
 }
 
 fn name_at(text: &[u8], seen: Lexeme) -> Name
     requires { (seen.from ≤ seen.next) × (seen.next ≤ length text.now) }
     ensures { result ≡ word_name text.now seen }
 {
-    let from = seen.from;
-    let next = seen.next;
-    Name::new(&text[from..next])
+    Name::new(&text[seen.from..seen.next])
 }
 
 impl Reader {
@@ -77,21 +51,29 @@ impl Reader {
         Part { root, next }
     }
 
+    // Two parts under a binary operator.
+    pub(crate) fn join(&mut self, by: Connective, left: Part, right: Part) -> Part
+        requires { self.old.count < 1024 }
+        ensures { Pushed self.old (node.Binary by left.root right.root) right.next self.new result }
+    {
+        self.push(Node::Binary(by, left.root, right.root), right.next)
+    }
+
     // The variable that a word names.
     pub(crate) fn variable(
         &mut self,
-        text: &[u8],
         slots: &mut [Slot<Name>],
+        from: Cursor,
         seen: Lexeme,
-        at: usize,
     ) -> Result<Part, TextFault>
-        requires { (Ready text.now slots.old self.old at) × (Ahead text.now at seen) }
-        ensures { ReadsBy 0 (variable_with seen) text.now at self.old self.new slots.new result }
+        requires { (Ready slots.old self.old from.at) × (Ahead from.text.now from.at seen) }
+        ensures { ReadsBy 0 (variable_with seen) from.entry self.old self.new slots.new result }
     {
-        let name = name_at(text, seen);
-        let Some(variable) = self.names.declare(slots, name) else {
-            return Err(too_many(seen));
-        };
+        let name = name_at(from.text, seen);
+        let variable = self
+            .names
+            .declare(slots, name)
+            .ok_or(seen.fault(Reason::Variables))?;
         Ok(self.push(Node::Variable(variable), seen.next))
     }
 

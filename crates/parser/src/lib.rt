@@ -1,8 +1,7 @@
 // Reads a rules text by recursive descent.
 #![tactic(auto)]
 
-ghost use Rattle.std.specs.Prelude.{◌≡◌, ◌≤◌, [], length, nat_lt};
-ghost use Rattle.faults.specs.declared.Reason.TheVariants as reason;
+ghost use Rattle.std.specs.Prelude.{◌≤◌, [], length};
 ghost use Rattle.index.specs.Keyed.{Indexed};
 ghost use Rattle.names.specs.Words.{name_code};
 ghost use Rattle.grammar.specs.Sections.{form_of};
@@ -23,52 +22,34 @@ use names::Name;
 use parsed::Parsed;
 use reader::Reader;
 
-fn is_too_long(bytes: usize) -> bool
-    ensures { result ≡ nat_lt 1024 bytes }
-{
-    bytes > 1024
-}
-
-fn too_long() -> TextFault
-    ensures { result ≡ record { reason = reason.TooLong; place = 1024 } }
-{
-    TextFault {
-        reason: Reason::TooLong,
-        place: 1024,
-    }
-}
-
-fn is_too_short(slots: usize) -> bool
-    ensures { result ≡ nat_lt slots 2048 }
-{
-    slots < 2048
-}
-
 // Reads a text with an index that holds no names.
 fn read(text: &[u8], slots: &mut [Slot<Name>]) -> Result<Parsed, TextFault>
     requires { (Indexed name_code slots.old []) × (2048 ≤ length slots.old) }
     ensures { Forms (form_of text.now) result }
 {
-    if is_too_long(text.len()) {
-        return Err(too_long());
+    if text.len() > 1024 {
+        return Err(TextFault {
+            reason: Reason::TooLong,
+            place: 1024,
+        });
     }
     let mut reader = Reader::new();
     let roots = reader.sections(text, slots)?;
     Ok(reader.finish(roots))
 }
 
-// Parses a text; `slots` is memory for an index of its names, at least 2,048 slots, which are free afterwards.
+/// Parses a text; `slots` is memory for an index of its names, at least 2,048 slots, which are free afterwards.
 pub fn parse(text: &[u8], slots: &mut [Slot<Name>]) -> Result<Parsed, Fault>
     ensures value { Parses text.now (length slots.old) result }
     ensures slots { Freed slots.old slots.new }
 {
-    if is_too_short(slots.len()) {
+    if slots.len() < 2048 {
         return Err(Fault::Short(Buffer::Index));
     }
     clear(slots);
     let outcome = read(text, slots);
     clear(slots);
-    Ok(outcome?)
+    outcome.map_err(Fault::Text)
 }
 
 #[cfg(test)]
@@ -88,12 +69,11 @@ mod tests {
         }),
     };
 
-    // The number and the place of the refusal, or two zeros.
-    fn refusal(text: &[u8], slots: &mut [Slot<Name>]) -> (u8, usize) {
-        match parse(text, slots) {
-            Ok(_) => (0, 0),
-            Err(fault) => (fault.number(), fault.place()),
-        }
+    // The number and the place of the refusal.
+    fn refusal(text: &[u8], slots: &mut [Slot<Name>]) -> Option<(u8, usize)> {
+        parse(text, slots)
+            .err()
+            .map(|fault| (fault.number(), fault.place()))
     }
 
     // `open` appears first, so it is the first variable of the system; each line is a part, and the two are joined.
@@ -120,13 +100,15 @@ mod tests {
     #[test]
     fn refusals(rt: HostRuntime) {
         let mut slots = [SLOT; 2048];
-        assert_eq!(rt; refusal(b"Initial Formula\na b\n", &mut slots).1, 18);
+        let place = refusal(b"Initial Formula\na b\n", &mut slots).map(|fault| fault.1);
+        assert_eq!(rt; place, Some(18));
         let many =
             b"Initial Formula\na & b & c & d & e & f & g & h & i & j & k & l & m & n & o & p & q\n";
-        assert_eq!(rt; refusal(many, &mut slots).0, 5);
-        assert_eq!(rt; refusal(many, &mut slots).1, 80);
-        assert_eq!(rt; refusal(b"Initial Formula\na\n", &mut slots).0, 3);
+        assert_eq!(rt; refusal(many, &mut slots), Some((5, 80)));
+        let number = refusal(b"Initial Formula\na\n", &mut slots).map(|fault| fault.0);
+        assert_eq!(rt; number, Some(3));
         let mut few = [SLOT; 2047];
-        assert_eq!(rt; refusal(b"", &mut few).0, 19);
+        let number = refusal(b"", &mut few).map(|fault| fault.0);
+        assert_eq!(rt; number, Some(19));
     }
 }

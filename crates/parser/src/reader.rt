@@ -1,4 +1,6 @@
 // What a reader holds, and what it answers.
+ghost use Rattle.std.specs.Prelude.{◌≤◌, length};
+
 use super::table::Names;
 use nodes::node::Node;
 
@@ -8,6 +10,15 @@ pub(crate) struct Reader {
     pub(crate) nodes: [Node; 1024],
     pub(crate) count: usize,
     pub(crate) names: Names,
+}
+
+// A place in a text of at most 1,024 bytes.
+#[derive(Clone, Copy)]
+pub(crate) struct Cursor<'a> {
+    pub(crate) text: &'a [u8],
+    pub(crate) at: usize,
+    ghost short: { length text.now ≤ 1024 },
+    ghost inside: { at ≤ length text.now },
 }
 
 // A formula that was read: the place of its node, and where the text goes on.

@@ -3,8 +3,9 @@ ghost use Rattle.std.specs.Prelude.{◌≡◌, ◌+◌, ◌≤◌};
 
 use names::Name;
 
-// At most 32 names, each with the number of its variable: at most 16 of the environment and 16 of the system.
-// Entries from the count on are blank.
+/// At most 32 names, each with the number of its variable: at most 16 of the environment and 16 of the system.
+/// Entries from the count on are blank.
+/// The table is Copy and takes no heap, so it has arrays and a count; the names have one of their own, since they are lent as one slice.
 #[derive(Clone, Copy)]
 pub struct Names {
     pub items: [Name; 32],

@@ -1,5 +1,5 @@
 use Rattle.std.proofs.Common.{◌+◌, ◌<◌, Bool, cond, List, sym, ap, ◌∙◌, subst, arith, length-take}
-use Rattle.std.proofs.lemmas.Bool.{cond-true, cond-false, ltb-true, ltb-false, not-true, not-false}
+use Rattle.std.proofs.lemmas.Bool.{cond-true, cond-false}
 use Rattle.index.specs.Keyed.{Indexed}
 use Rattle.names.specs.declared.Name.{Name}
 use Rattle.names.specs.Words.{name_code}
@@ -27,16 +27,15 @@ returns-in-Some c =
       known = c.requires;
     }
 
-pub returns-then-is_full : goal.returns-then-is_full
-returns-then-is_full c =
+pub returns-then-rank-ge16 : goal.returns-then-rank-ge16
+returns-then-rank-ge16 c =
     let l =
     not_listed c.args.name (names_of c.args.self.now)
     (c.in_default.ensures.model (names_of c.args.self.now) c.requires.indexed) in
     let u =
     used_is c.args.self.now c.args.name _ _ c.requires.numbered l c.is_environment-environment.ensures
     c.used-rank.ensures in
-    let h = ltb-false _ _ (not-true _ (sym c.if-is_full.ensures)) in
-    omega arith
+    omega (arith, u, c.if-rank-ge16.true)
 
 pub returns : goal.returns
 returns c =
@@ -44,8 +43,7 @@ returns c =
     let l = not_listed c.args.name names (c.in_default.ensures.model names c.requires.indexed) in
     let b = c.is_environment-environment.ensures in
     let u = used_is c.args.self.now c.args.name _ _ c.requires.numbered l b c.used-rank.ensures in
-    let h = ltb-true _ _ (not-false _ (sym c.if-is_full.ensures)) in
-    let f : rank c.args.name names < 16 = omega arith in
+    let f : rank c.args.name names < 16 = omega (arith, u, c.if-rank-ge16.false) in
     let A : Bool → Type 0 =
     λ e. Appended c.args.self.now c.args.name e c.variable_of-variable.result c.append.new.self in
     let a = subst A b c.append.ensures in
