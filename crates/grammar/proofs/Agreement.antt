@@ -10,7 +10,7 @@ use Rattle.lexer.specs.declared.token.Lexeme.{Lexeme}
 use Rattle.lexer.specs.declared.token.Operator.TheVariants as operator
 use Rattle.lexer.specs.declared.token.Symbol.{Symbol}
 use Rattle.lexer.specs.declared.token.Symbol.TheVariants as symbol
-use Rattle.lexer.specs.Bounds.{then_ok, outside, sign_of, sign_in, bounded, number_in, bound_after, bound_from, bound_in, range_in}
+use Rattle.lexer.specs.Bounds.{then_ok, outside, sign_of, sign_in, bounded, number_in, bound_after, bound_from, bound_in, range_in, expected}
 use Rattle.lexer.specs.Lexer.{look_at}
 use Rattle.lexer.specs.Tokens.{is_symbol, is_line, is_end, number_of}
 use Rattle.names.specs.Words.{name_of}
@@ -29,7 +29,7 @@ use Rattle.grammar.specs.declared.head.Unary.{Unary}
 use Rattle.grammar.specs.declared.head.Unary.TheVariants as unary
 use Rattle.grammar.specs.Grammar.{head_of, symbol_of, State, moved, Out, good, stop, Parser, and_then, next_prefix, range_prefix, prefix_in, prefixed, behind, word_name, named, closed, begun}
 use Rattle.grammar.specs.Grammar.{implication_in, whole_in, unary_by, more, chain_by, arrowed, arrow_by, operand_by, inside}
-use Rattle.grammar.specs.Sections.{is_word, is_true, is_this, expected, then_at, past_lines, blanks, word_in, line_in, true_in, last_in, end_in, header_in, third_in, third_begins}
+use Rattle.grammar.specs.Sections.{is_word, is_true, is_this, past_lines, blanks, word_in, line_in, true_in, last_in, end_in, header_in, third_in, third_begins}
 use Rattle.grammar.specs.Sections.{ended, formula_in, lines_in, safety_in, Contents, Form, formed, refused, or_refused, out_or_refused, sections_of}
 use Rattle.grammar.specs.Shows.{Level, up_to}
 use Rattle.grammar.specs.Shows.{unary as unary_level}
@@ -229,15 +229,15 @@ module _ (text other : List ℕ) (place : ℕ) (same : SameTokens text other pla
   pub nesting_not_final : (p : ℕ) → Final (record { reason = reason.Nesting; place = p }) → ⊥
   nesting_not_final p b =
       ⊎_elim
-      (λ e. let z : ◌≡◌ {A = ℕ} 0 1 = cc in omega arith)
-      (λ e. let z : ◌≡◌ {A = ℕ} 0 1 = cc in omega arith)
+      (λ e. cc)
+      (λ e. cc)
       b.1
 
   pub variables_not_final : (p : ℕ) → Final (record { reason = reason.Variables; place = p }) → ⊥
   variables_not_final p b =
       ⊎_elim
-      (λ e. let z : ◌≡◌ {A = ℕ} 0 1 = cc in omega arith)
-      (λ e. let z : ◌≡◌ {A = ℕ} 0 1 = cc in omega arith)
+      (λ e. cc)
+      (λ e. cc)
       b.1
 
   -- ── single tokens and blank lines ──
@@ -323,28 +323,6 @@ module _ (text other : List ℕ) (place : ℕ) (same : SameTokens text other pla
   behind_step Passed f f' at h = record {
     past = λ o. (h (blanks text at)).past ((blanks_step at).past o);
     agree = behind_agree Passed f f' (blanks text at) (blanks other at) h (blanks_step at).agree;
-  }
-
-  -- results of the sections
-
-  at_past :
-      (r : Result ℕ TextFault) (k k' : ℕ → Result ℕ TextFault) → ((n : ℕ) → Reads here n (k n) (k' n)) →
-      PassedBy here r → PassedBy here (then_at r k)
-  at_past (Ok n) k k' h p = (h n).past p
-  at_past (Err f) k k' h p = p
-
-  at_agree :
-      (r r' : Result ℕ TextFault) (k k' : ℕ → Result ℕ TextFault) → ((n : ℕ) → Reads here n (k n) (k' n)) →
-      r ≡ r' → (then_at r k ≡ then_at r' k') ⊎ PassedBy here (then_at r k)
-  at_agree (Ok n) r' k k' h e = subst (λ z. (k n ≡ then_at z k') ⊎ PassedBy here (k n)) e (h n).agree
-  at_agree (Err f) r' k k' h e = inl (ap (λ z. then_at z k') e)
-
-  pub at_step :
-      (at : ℕ) (r r' : Result ℕ TextFault) (k k' : ℕ → Result ℕ TextFault) → Reads here at r r' →
-      ((n : ℕ) → Reads here n (k n) (k' n)) → Reads here at (then_at r k) (then_at r' k')
-  at_step at r r' k k' s h = record {
-    past = λ o. at_past r k k' h (s.past o);
-    agree = ⊎_elim (at_agree r r' k k' h) (λ p. inr (at_past r k k' h p)) s.agree;
   }
 
   -- ── levels ──
@@ -634,42 +612,42 @@ module _ (text other : List ℕ) (place : ℕ) (same : SameTokens text other pla
 
   header_step : (v w : List ℕ) (at : ℕ) → Reads here at (header_in text v w at) (header_in other v w at)
   header_step v w at =
-      behind_step (PassedBy here) (λ p. then_at (word_in text v p) (λ a. then_at (word_in text w a) (λ b. line_in text b)))
-      (λ p. then_at (word_in other v p) (λ a. then_at (word_in other w a) (λ b. line_in other b))) at (λ p.
-      at_step p _ _ _ _ (word_step v p) (λ a. at_step a _ _ _ _ (word_step w a) line_step))
+      behind_step (PassedBy here) (λ p. then_ok (word_in text v p) (λ a. then_ok (word_in text w a) (λ b. line_in text b)))
+      (λ p. then_ok (word_in other v p) (λ a. then_ok (word_in other w a) (λ b. line_in other b))) at (λ p.
+      then_step here here p _ _ _ _ (word_step v p) (λ a. then_step here here a _ _ _ _ (word_step w a) line_step))
 
   -- the third section behind its first word
   abbrev third_from : List ℕ → ℕ → Result ℕ TextFault
   third_from words a =
-      then_at (word_in words (codes "Global") a) (λ b.
-      then_at (word_in words (codes "Constraints") b) (λ c.
-      then_at (line_in words c) (λ d.
-      then_at (true_in words (blanks words d)) (λ e.
-      then_at (last_in words e) (λ f. end_in words (blanks words f))))))
+      then_ok (word_in words (codes "Global") a) (λ b.
+      then_ok (word_in words (codes "Constraints") b) (λ c.
+      then_ok (line_in words c) (λ d.
+      then_ok (true_in words (blanks words d)) (λ e.
+      then_ok (last_in words e) (λ f. end_in words (blanks words f))))))
 
   abbrev true_from : List ℕ → ℕ → Result ℕ TextFault
-  true_from words p = then_at (true_in words p) (λ e. then_at (last_in words e) (λ f. end_in words (blanks words f)))
+  true_from words p = then_ok (true_in words p) (λ e. then_ok (last_in words e) (λ f. end_in words (blanks words f)))
 
   true_from_lem : (at : ℕ) → Reads here at (true_from text at) (true_from other at)
   true_from_lem at =
-      at_step at _ _ _ _ (true_step at) (λ e.
-      at_step e _ _ _ _ (last_step e) (λ f. behind_step (PassedBy here) (end_in text) (end_in other) f end_step))
+      then_step here here at _ _ _ _ (true_step at) (λ e.
+      then_step here here e _ _ _ _ (last_step e) (λ f. behind_step (PassedBy here) (end_in text) (end_in other) f end_step))
 
   third_from_lem : (a : ℕ) → Reads here a (third_from text a) (third_from other a)
   third_from_lem a =
-      at_step a _ _ _ _ (word_step (codes "Global") a) (λ b.
-      at_step b _ _ _ _ (word_step (codes "Constraints") b) (λ c.
-      at_step c _ _ _ _ (line_step c) (λ d. behind_step (PassedBy here) (true_from text) (true_from other) d true_from_lem)))
+      then_step here here a _ _ _ _ (word_step (codes "Global") a) (λ b.
+      then_step here here b _ _ _ _ (word_step (codes "Constraints") b) (λ c.
+      then_step here here c _ _ _ _ (line_step c) (λ d. behind_step (PassedBy here) (true_from text) (true_from other) d true_from_lem)))
 
   third_step : (at : ℕ) → Reads here at (third_in text at) (third_in other at)
-  third_step at = at_step at _ _ (third_from text) (third_from other) (word_step (codes "Environment") at) third_from_lem
+  third_step at = then_step here here at _ _ (third_from text) (third_from other) (word_step (codes "Environment") at) third_from_lem
 
   -- a third section that begins here, with the place behind its first word
   third_begun :
       (at : ℕ) → is_this text (codes "Environment") (look_at text at) ≡ true → Past (look_at text at).next → PassedBy here (third_in text at)
   unfolding word_in
   third_begun at is o =
-      subst (λ r. PassedBy here (then_at r (third_from text))) (sym (cond-true _ _ _ is)) ((third_from_lem (look_at text at).next).past o)
+      subst (λ r. PassedBy here (then_ok r (third_from text))) (sym (cond-true _ _ _ is)) ((third_from_lem (look_at text at).next).past o)
 
   ended_past : (t : Written) (s : State) (r : Result ℕ TextFault) → PassedBy here r → PassedOut (ended t s r)
   ended_past t s (Ok n) p = p

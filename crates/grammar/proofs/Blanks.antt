@@ -10,9 +10,10 @@ use Rattle.lexer.specs.declared.look.Class.TheVariants.{Letter}
 use Rattle.lexer.specs.Lexer.{part, run, word_token, symbol_token, token_at, look_at}
 use Rattle.lexer.specs.Tokens.{is_line, is_end}
 use Rattle.lexer.proofs.Looks.{look_past, look_next}
-use Rattle.grammar.specs.Sections.{is_true, is_this, then_at, past_lines, blanks, word_in, line_in, true_in, last_in, end_in, header_in, third_in, third_begins}
+use Rattle.lexer.specs.Bounds.{then_ok}
+use Rattle.grammar.specs.Sections.{is_true, is_this, past_lines, blanks, word_in, line_in, true_in, last_in, end_in, header_in, third_in, third_begins}
 use Rattle.grammar.specs.Shows.{Blank, none, line, Words, done, word, Header, Third}
-use Rattle.grammar.proofs.Outcomes.{split_expected, split_then}
+use Rattle.grammar.proofs.Outcomes.{split_expected, split_then, then_is}
 use Rattle.grammar.proofs.Tokens.{word_not_line, true_not_line, end_not_line, line_forward, no_line_past}
 
 -- ── the end of a text stays the end ──
@@ -158,9 +159,6 @@ module _ (text : List ℕ) where
   this_not_line : (w : List ℕ) (a : ℕ) → is_this text w (look_at text a) ≡ true → is_line (look_at text a).token ≡ false
   this_not_line w a e = word_not_line (look_at text a).token (and_parts _ _ e).0
 
-  then_is : {X : Type 0} (r : Result ℕ TextFault) (k : ℕ → Result X TextFault) (a : ℕ) → r ≡ Ok a → then_at r k ≡ k a
-  then_is r k a e = ap (λ x. then_at x k) e
-
   pub header_sound : (v w : List ℕ) (a b : ℕ) → header_in text v w a ≡ Ok b → Header text (v ∷ w ∷ []) a b
   header_sound v w a b e =
       let p = split_then (word_in text v (blanks text a)) _ b e in
@@ -184,7 +182,7 @@ module _ (text : List ℕ) where
       let first = first_word v (w ∷ []) x h.end h.words in
       let second = first_word w [] y h.end ws in
       let ends : z ≡ h.end = no_words z h.end (next_words w [] y h.end ws) in
-      ap (λ i. then_at (word_in text v i) (λ j. then_at (word_in text w j) (λ k. line_in text k)))
+      ap (λ i. then_ok (word_in text v i) (λ j. then_ok (word_in text w j) (λ k. line_in text k)))
       (blanks_complete a x h.blank (this_not_line v x first))
       ∙ then_is (word_in text v x) _ y (word_ok v x first) ∙ then_is (word_in text w y) _ z (word_ok w y second) ∙ ap (line_in text) ends
       ∙ line_ok h.end h.line_end ∙ ap Ok (sym h.next)
@@ -234,7 +232,7 @@ module _ (text : List ℕ) where
 
   blank_last :
       (e end : ℕ) → Blank text e end → is_end (look_at text end).token ≡ true →
-      (x : ℕ) × (then_at (last_in text e) (λ f. end_in text (blanks text f)) ≡ Ok x)
+      (x : ℕ) × (then_ok (last_in text e) (λ f. end_in text (blanks text f)) ≡ Ok x)
   blank_last e end none is =
       let f = (look_at text e).next in
       let still = end_stays e is in

@@ -1,10 +1,11 @@
 -- Outcomes of reading: what follows from a good one, and how a good one was composed.
-use Rattle.std.proofs.Common.{◌≡◌, ℕ, Bool, true, false, cond, Ok, Err, Result, refl, subst, arith}
+use Rattle.std.proofs.Common.{◌≡◌, ℕ, Bool, true, false, cond, Ok, Err, Result, refl, ap, subst}
 use Rattle.faults.specs.declared.TextFault.{TextFault}
 use Rattle.lexer.specs.declared.token.Lexeme.{Lexeme}
 use Rattle.temporal.specs.Written.{Written}
 use Rattle.grammar.specs.Grammar.{State, Out, good, stop, and_then}
-use Rattle.grammar.specs.Sections.{Contents, Form, formed, refused, expected, then_at, ended, or_refused, out_or_refused}
+use Rattle.lexer.specs.Bounds.{expected, then_ok}
+use Rattle.grammar.specs.Sections.{Contents, Form, formed, refused, ended, or_refused, out_or_refused}
 
 same_formula : {t u : Written} {b c : State} → good t b ≡ good u c → t ≡ u
 same_formula e = cc
@@ -17,13 +18,13 @@ pub carried : (P : State → Written → Type 0) {t u : Written} {b c : State} �
 carried P {t} {u} {b} {c} e h = subst (λ v. P c v) (same_formula e) (subst (λ s. P s t) (same_state e) h)
 
 pub never_good : {f : TextFault} {t : Written} {b : State} → stop f ≡ good t b → ⊥
-never_good e = let z : ◌≡◌ {A = ℕ} 0 1 = cc in omega arith
+never_good e = cc
 
 pub never_ok : {X : Type 0} {f : TextFault} {x : X} → Err f ≡ Ok x → ⊥
-never_ok e = let z : ◌≡◌ {A = ℕ} 0 1 = cc in omega arith
+never_ok e = cc
 
 pub never_formed : {f : TextFault} {c : Contents} → refused f ≡ formed c → ⊥
-never_formed e = let z : ◌≡◌ {A = ℕ} 0 1 = cc in omega arith
+never_formed e = cc
 
 pub same_contents : {c d : Contents} → formed c ≡ formed d → c ≡ d
 same_contents e = cc
@@ -49,10 +50,13 @@ split_expected true l b e = (refl, same_place e)
 split_expected false l b e = absurd (never_ok e)
 
 pub split_then :
-    {X : Type 0} (r : Result ℕ TextFault) (k : ℕ → Result X TextFault) (x : X) → then_at r k ≡ Ok x →
-    (a : ℕ) × (r ≡ Ok a) × (k a ≡ Ok x)
-split_then (Ok a) k x e = (a, refl, e)
-split_then (Err f) k x e = absurd (never_ok e)
+    {X Y : Type 0} (r : Result X TextFault) (k : X → Result Y TextFault) (y : Y) → then_ok r k ≡ Ok y →
+    (x : X) × (r ≡ Ok x) × (k x ≡ Ok y)
+split_then (Ok x) k y e = (x, refl, e)
+split_then (Err f) k y e = absurd (never_ok e)
+
+pub then_is : {X Y : Type 0} (r : Result X TextFault) (k : X → Result Y TextFault) (x : X) → r ≡ Ok x → then_ok r k ≡ k x
+then_is r k x e = ap (λ z. then_ok z k) e
 
 pub split_ended :
     (u : Written) (c : State) (r : Result ℕ TextFault) (t : Written) (b : State) → ended u c r ≡ good t b →

@@ -19,15 +19,10 @@ use Rattle.grammar.specs.declared.head.Unary.{Unary}
 use Rattle.grammar.specs.declared.head.Unary.TheVariants as operator
 use Rattle.grammar.specs.Grammar.{next_prefix, range_prefix, prefix_in}
 use Rattle.grammar.specs.Shows.{skip, Sign, Numeral, OneBound, TwoBounds, Bounds, not_bounds, next_alone, next_bound, always_bounds, eventually_bounds}
-use Rattle.grammar.proofs.Outcomes.{never_ok}
+use Rattle.grammar.proofs.Outcomes.{never_ok, split_then, then_is}
 
 same_ok : {X : Type 0} {x y : X} → ◌≡◌ {A = Result X TextFault} (Ok x) (Ok y) → x ≡ y
 same_ok e = cc
-
-split_ok :
-    {X Y : Type 0} (r : Result X TextFault) (k : X → Result Y TextFault) (y : Y) → then_ok r k ≡ Ok y → (x : X) × (r ≡ Ok x) × (k x ≡ Ok y)
-split_ok (Ok x) k y e = (x, refl, e)
-split_ok (Err f) k y e = absurd (never_ok e)
 
 -- a bound in its range passes the test
 not_outside : (least n : ℕ) → least ≤ n → n ≤ 4095 → outside least n ≡ false
@@ -73,9 +68,6 @@ module _ (text : List ℕ) where
   number_ok least a n e low high =
       ap (bounded least (look_at text a)) e ∙ cond-false (outside least n) _ _ (not_outside least n low high)
 
-  ok_then : {X Y : Type 0} (r : Result X TextFault) (k : X → Result Y TextFault) (x : X) → r ≡ Ok x → then_ok r k ≡ k x
-  ok_then r k x e = ap (λ z. then_ok z k) e
-
   -- what stands at a place stands at the same place under another name
   sign_at : (s : Symbol) (a b : ℕ) → a ≡ b → Sign text s b → Sign text s a
   sign_at s a b e h = subst (Sign text s) (sym e) h
@@ -89,9 +81,9 @@ module _ (text : List ℕ) where
   -- ── one bound ──
   one_sound : (a : ℕ) (b : Bound) → Sign text symbol.Left a → bound_after text (look_at text a).next ≡ Ok b → 1 ≤ b.value → b.value ≤ 4095 → OneBound text a b.next b.value
   one_sound a b l g least most =
-      let p = split_ok (number_in text 1 (look_at text a).next) _ b g in
+      let p = split_then (number_in text 1 (look_at text a).next) _ b g in
       let n = number_sound 1 (look_at text a).next p.0 p.1 in
-      let q = split_ok (sign_in text symbol.Right p.0.next) _ b p.2 in
+      let q = split_then (sign_in text symbol.Right p.0.next) _ b p.2 in
       let r = sign_sound symbol.Right p.0.next q.0 q.1 in
       let same = same_ok q.2 in
       record {
@@ -107,8 +99,8 @@ module _ (text : List ℕ) where
   unfolding bound_in
   one_complete a b n h =
       cond-true (is_symbol symbol.Left (look_at text a).token) _ _ h.left
-      ∙ ok_then (number_in text 1 (skip text 1 a)) _ _ (number_ok 1 (skip text 1 a) n h.value h.least h.most)
-      ∙ ok_then (sign_in text symbol.Right (skip text 2 a)) _ _ (sign_ok symbol.Right (skip text 2 a) h.right)
+      ∙ then_is (number_in text 1 (skip text 1 a)) _ _ (number_ok 1 (skip text 1 a) n h.value h.least h.most)
+      ∙ then_is (sign_in text symbol.Right (skip text 2 a)) _ _ (sign_ok symbol.Right (skip text 2 a) h.right)
       ∙ ap (λ i. Ok (record { value = n; next = i })) (sym h.end)
 
   alone_complete : (a : ℕ) → is_symbol symbol.Left (look_at text a).token ≡ false → bound_in text a ≡ Ok (record { value = 1; next = a })
@@ -131,15 +123,15 @@ module _ (text : List ℕ) where
   unfolding range_in
   two_sound a r g =
       let ok = range_ok text a r g in
-      let p = split_ok (sign_in text symbol.Left a) _ r g in
+      let p = split_then (sign_in text symbol.Left a) _ r g in
       let left = sign_sound symbol.Left a p.0 p.1 in
-      let q = split_ok (number_in text 0 p.0) _ r p.2 in
+      let q = split_then (number_in text 0 p.0) _ r p.2 in
       let low = number_sound 0 p.0 q.0 q.1 in
-      let s = split_ok (sign_in text symbol.Comma q.0.next) _ r q.2 in
+      let s = split_then (sign_in text symbol.Comma q.0.next) _ r q.2 in
       let comma = sign_sound symbol.Comma q.0.next s.0 s.1 in
-      let u = split_ok (number_in text q.0.value s.0) _ r s.2 in
+      let u = split_then (number_in text q.0.value s.0) _ r s.2 in
       let high = number_sound q.0.value s.0 u.0 u.1 in
-      let v = split_ok (sign_in text symbol.Right u.0.next) _ r u.2 in
+      let v = split_then (sign_in text symbol.Right u.0.next) _ r u.2 in
       let right = sign_sound symbol.Right u.0.next v.0 v.1 in
       let same = same_ok v.2 in
       let two = go (skip text 1 a) p.0 q.0.next left.1 low.1 in
@@ -159,11 +151,11 @@ module _ (text : List ℕ) where
   two_complete : (a b n m : ℕ) → TwoBounds text a b n m → range_in text a ≡ Ok (record { low = n; high = m; next = b })
   unfolding range_in
   two_complete a b n m h =
-      ok_then (sign_in text symbol.Left a) _ _ (sign_ok symbol.Left a h.left)
-      ∙ ok_then (number_in text 0 (skip text 1 a)) _ _ (number_ok 0 (skip text 1 a) n h.low (omega arith) (omega (arith, h.ordered, h.most)))
-      ∙ ok_then (sign_in text symbol.Comma (skip text 2 a)) _ _ (sign_ok symbol.Comma (skip text 2 a) h.comma)
-      ∙ ok_then (number_in text n (skip text 3 a)) _ _ (number_ok n (skip text 3 a) m h.high h.ordered h.most)
-      ∙ ok_then (sign_in text symbol.Right (skip text 4 a)) _ _ (sign_ok symbol.Right (skip text 4 a) h.right)
+      then_is (sign_in text symbol.Left a) _ _ (sign_ok symbol.Left a h.left)
+      ∙ then_is (number_in text 0 (skip text 1 a)) _ _ (number_ok 0 (skip text 1 a) n h.low (omega arith) (omega (arith, h.ordered, h.most)))
+      ∙ then_is (sign_in text symbol.Comma (skip text 2 a)) _ _ (sign_ok symbol.Comma (skip text 2 a) h.comma)
+      ∙ then_is (number_in text n (skip text 3 a)) _ _ (number_ok n (skip text 3 a) m h.high h.ordered h.most)
+      ∙ then_is (sign_in text symbol.Right (skip text 4 a)) _ _ (sign_ok symbol.Right (skip text 4 a) h.right)
       ∙ ap (λ i. Ok (record { low = n; high = m; next = i })) (sym h.end)
 
   -- ── all unary operators ──

@@ -20,8 +20,8 @@ token_refused :
 token_refused true o p f h e =
     let long : reason.TooLong ≡ f.reason = ap (λ g. g.reason) (same_fault _ f e) in
     ⊎_elim
-    (λ q. let z : ◌≡◌ {A = ℕ} 0 1 = cc in absurd (omega arith))
-    (λ q. let z : ◌≡◌ {A = ℕ} 0 1 = cc in absurd (omega arith))
+    (λ q. absurd cc)
+    (λ q. absurd cc)
     h
 token_refused false o p f h e = e
 

@@ -7,7 +7,8 @@ use Rattle.lexer.specs.declared.token.Lexeme.{Lexeme}
 use Rattle.lexer.specs.declared.token.Token.{Token}
 use Rattle.lexer.specs.declared.token.Token.TheVariants as token
 use Rattle.lexer.specs.Lexer.{look_at, part}
-use Rattle.lexer.specs.Tokens.{is_line, is_end, refusal_of}
+use Rattle.lexer.specs.Bounds.{expected, then_ok}
+use Rattle.lexer.specs.Tokens.{is_line, is_end}
 use Rattle.names.specs.declared.Name.{Name}
 use Rattle.temporal.specs.Written.{Written, conjunction}
 use Rattle.grammar.specs.Grammar.{State, Out, good, stop, and_then, whole_at}
@@ -36,14 +37,6 @@ is_true (token.Symbol s) = false
 abbrev pub is_this : List ℕ → List ℕ → Lexeme → Bool
 is_this text w x = is_word x.token && bytes_eq (part text x.from (x.next - x.from)) w
 
--- where the text goes on behind a token that has to pass the test
-abbrev pub expected : Bool → Lexeme → Result ℕ TextFault
-expected passes x = cond passes (Ok x.next) (Err (record { reason = refusal_of x.token; place = x.from }))
-
-abbrev pub then_at : {X : Type 0} → Result ℕ TextFault → (ℕ → Result X TextFault) → Result X TextFault
-then_at (Ok at) k = k at
-then_at (Err f) k = Err f
-
 -- past line ends: blank lines mean nothing, and a text has fewer of them than bytes
 unfoldable pub past_lines : List ℕ → ℕ → ℕ → ℕ
 past_lines text zero at = at
@@ -70,17 +63,17 @@ end_in text at = expected (is_end (look_at text at).token) (look_at text at)
 
 -- a header of two words on a line of its own
 abbrev pub header_in : List ℕ → List ℕ → List ℕ → ℕ → Result ℕ TextFault
-header_in text v w at = then_at (word_in text v (blanks text at)) (λ a. then_at (word_in text w a) (λ b. line_in text b))
+header_in text v w at = then_ok (word_in text v (blanks text at)) (λ a. then_ok (word_in text w a) (λ b. line_in text b))
 
 -- the third section: its header of three words, the line `True`, and nothing but blank lines behind it
 abbrev pub third_in : List ℕ → ℕ → Result ℕ TextFault
 third_in text at =
-    then_at (word_in text (codes "Environment") at) (λ a.
-    then_at (word_in text (codes "Global") a) (λ b.
-    then_at (word_in text (codes "Constraints") b) (λ c.
-    then_at (line_in text c) (λ d.
-    then_at (true_in text (blanks text d)) (λ e.
-    then_at (last_in text e) (λ f. end_in text (blanks text f)))))))
+    then_ok (word_in text (codes "Environment") at) (λ a.
+    then_ok (word_in text (codes "Global") a) (λ b.
+    then_ok (word_in text (codes "Constraints") b) (λ c.
+    then_ok (line_in text c) (λ d.
+    then_ok (true_in text (blanks text d)) (λ e.
+    then_ok (last_in text e) (λ f. end_in text (blanks text f)))))))
 
 -- behind the first safety line the third section begins where `Environment` is followed by `Global`
 unfoldable pub third_begins : List ℕ → ℕ → Bool

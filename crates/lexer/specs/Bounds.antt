@@ -9,7 +9,7 @@ use Rattle.lexer.specs.declared.token.Lexeme.{Lexeme}
 use Rattle.lexer.specs.declared.token.Symbol.{Symbol}
 use Rattle.lexer.specs.declared.token.Symbol.TheVariants as symbol
 use Rattle.lexer.specs.Lexer.{look_at}
-use Rattle.lexer.specs.Tokens.{is_symbol, refusal_of, number_of}
+use Rattle.lexer.specs.Tokens.{fault_of, is_symbol, refusal_of, number_of}
 
 -- a refusal for a reason at a place
 abbrev pub refused : {X : Type 0} → Reason → ℕ → Result X TextFault
@@ -17,7 +17,7 @@ refused r p = Err (record { reason = r; place = p })
 
 -- the token may not stand here
 abbrev pub misplaced : {X : Type 0} → Lexeme → Result X TextFault
-misplaced x = refused (refusal_of x.token) x.from
+misplaced x = Err (fault_of (refusal_of x.token) x)
 
 -- the first refusal, or what comes next
 abbrev pub then_ok : {X Y : Type 0} → Result X TextFault → (X → Result Y TextFault) → Result Y TextFault
@@ -29,8 +29,12 @@ abbrev pub WhenOk : {X : Type 0} → (X → Type 0) → Result X TextFault → T
 WhenOk P (Ok x) = P x
 WhenOk P (Err f) = Unit {0}
 
+-- where the text goes on behind the token x, if it passes a test
+abbrev pub expected : Bool → Lexeme → Result ℕ TextFault
+expected passes x = cond passes (Ok x.next) (misplaced x)
+
 abbrev pub sign_of : Symbol → Lexeme → Result ℕ TextFault
-sign_of s x = cond (is_symbol s x.token) (Ok x.next) (misplaced x)
+sign_of s x = expected (is_symbol s x.token) x
 
 -- where the text goes on behind a symbol that has to stand at `at`
 unfoldable pub sign_in : List ℕ → Symbol → ℕ → Result ℕ TextFault

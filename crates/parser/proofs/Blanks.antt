@@ -6,10 +6,10 @@ use Rattle.lexer.specs.declared.token.Lexeme.{Lexeme}
 use Rattle.lexer.specs.declared.token.Token.{Token}
 use Rattle.lexer.specs.Lexer.{look_at}
 use Rattle.lexer.specs.Tokens.{is_line, is_end}
-use Rattle.lexer.specs.Bounds.{WhenOk}
+use Rattle.lexer.specs.Bounds.{WhenOk, expected, then_ok}
 use Rattle.lexer.proofs.Limits.{On, both_on, when_ok}
 use Rattle.lexer.proofs.Looks.{look_next, look_in_text, look_forward}
-use Rattle.grammar.specs.Sections.{is_this, expected, then_at, past_lines, blanks, word_in, line_in, header_in}
+use Rattle.grammar.specs.Sections.{is_this, past_lines, blanks, word_in, line_in, header_in}
 
 -- past blank lines
 
@@ -75,7 +75,7 @@ module _ (text : List ℕ) where
 
   then_on :
       (at : ℕ) (r : Result ℕ TextFault) (k : ℕ → Result ℕ TextFault) → WhenOk (On text at) r → ((n : ℕ) → WhenOk (On text n) (k n)) →
-      WhenOk (On text at) (then_at r k)
+      WhenOk (On text at) (then_ok r k)
   then_on at (Ok n) k h f = on_from at n (k n) h (f n)
     where
       on_from : (a n : ℕ) (r : Result ℕ TextFault) → On text a n → WhenOk (On text n) r → WhenOk (On text a) r
@@ -101,7 +101,7 @@ module _ (text : List ℕ) where
   line_of true at n e h =
       let k : n ≡ (look_at text at).next = cc in
       omega (arith, look_forward text at (line_not_end (look_at text at).token (sym e)))
-  line_of false at n e h = let z : ◌≡◌ {A = ℕ} 0 1 = cc in absurd (omega arith)
+  line_of false at n e h = absurd cc
 
   pub line_reads : (at n : ℕ) → Ok n ≡ line_in text at → at < n
   unfolding line_in

@@ -30,7 +30,7 @@ name_same x = and_from _ _ (bytes_same x.bytes) (eq-eqb x.length x.length refl)
 
 -- where a name is at a place of the list, and where it is at none
 pub is_listed : (x : Name) (names : List Name) (i : ℕ) → slice_get names i ≡ Some x → listed x names ≡ true
-is_listed x [] i e = let z : ◌≡◌ {A = ℕ} 0 1 = cc in absurd (omega arith)
+is_listed x [] i e = absurd cc
 is_listed x (y ∷ ys) zero e = let q : x ≡ y = cc in cond-true _ _ _ (ap (λ z. same_name x z) (sym q) ∙ name_same x)
 is_listed x (y ∷ ys) (suc i) e =
     ⊎_elim (λ t. cond-true _ _ _ t) (λ f. cond-false _ _ _ f ∙ is_listed x ys i e) (cases_Bool (same_name x y))
@@ -42,7 +42,7 @@ not_listed x (y ∷ ys) h =
     (λ f. cond-false _ _ _ f ∙ not_listed x ys (λ i e. h (suc i) e)) (cases_Bool (same_name x y))
 
 pub rank_more : (x : Name) (names ys : List Name) → listed x names ≡ true → rank x (names ++ ys) ≡ rank x names
-rank_more x [] ys l = let z : ◌≡◌ {A = ℕ} 0 1 = cc in absurd (omega arith)
+rank_more x [] ys l = absurd cc
 rank_more x (y ∷ zs) ys l =
     ⊎_elim (λ t. cond-true _ _ _ t ∙ sym (cond-true _ _ _ t))
     (λ f.
@@ -53,7 +53,7 @@ rank_more x (y ∷ zs) ys l =
 
 unlisted_rest : (x y : Name) (ys : List Name) → listed x (y ∷ ys) ≡ false → (same_name x y ≡ false) × (listed x ys ≡ false)
 unlisted_rest x y ys l =
-    ⊎_elim (λ t. let u = cond-true (same_name x y) true (listed x ys) t in let z : ◌≡◌ {A = ℕ} 0 1 = cc in absurd (omega arith))
+    ⊎_elim (λ t. let u = cond-true (same_name x y) true (listed x ys) t in absurd cc)
     (λ f. (f, sym (cond-false (same_name x y) true (listed x ys) f) ∙ l)) (cases_Bool (same_name x y))
 
 pub rank_new : (x : Name) (names : List Name) → listed x names ≡ false → rank x names ≡ of_kind (environmental x) names
@@ -84,12 +84,12 @@ systems_more false = refl
 nth_push :
     (names : List Name) (x y : Name) (i : ℕ) → slice_get (names ++ x ∷ []) i ≡ Some y → (slice_get names i ≡ Some y) ⊎ ((i ≡ length names) × (x ≡ y))
 nth_push [] x y zero e = inr (refl, cc)
-nth_push [] x y (suc i) e = let z : ◌≡◌ {A = ℕ} 0 1 = cc in absurd (omega arith)
+nth_push [] x y (suc i) e = absurd cc
 nth_push (z ∷ zs) x y zero e = inl e
 nth_push (z ∷ zs) x y (suc i) e = ⊎_elim (λ l. inl l) (λ r. inr (ap suc r.0, r.1)) (nth_push zs x y i e)
 
 pub nth_below : (names : List Name) (y : Name) (i : ℕ) → slice_get names i ≡ Some y → i < length names
-nth_below [] y i e = let z : ◌≡◌ {A = ℕ} 0 1 = cc in absurd (omega arith)
+nth_below [] y i e = absurd cc
 nth_below (z ∷ zs) y zero e = omega arith
 nth_below (z ∷ zs) y (suc i) e = omega (arith, nth_below zs y i e)
 

@@ -1,11 +1,11 @@
 // The lines of a text: header words, line ends and blank lines.
-ghost use Rattle.std.specs.Prelude.{◌≡◌, Bool, codes};
-ghost use Rattle.lexer.specs.Lexer.{look_at};
+ghost use Rattle.std.specs.Prelude.{◌≡◌, codes};
+ghost use Rattle.lexer.specs.Bounds.{then_ok};
 ghost use Rattle.grammar.specs.Sections.{blanks, header_in, third_begins, third_in};
-ghost use Rattle.grammar.specs.Sections.{expected, is_this, line_in, then_at, word_in};
+ghost use Rattle.grammar.specs.Sections.{is_this, line_in, word_in};
 
 use faults::TextFault;
-use lexer::look::{look, same_word};
+use lexer::look::{expect, look, same_word};
 use lexer::token::{Lexeme, Token};
 
 // Whether a token is this word.
@@ -13,19 +13,6 @@ fn is_this(text: &[u8], word: &[u8], seen: Lexeme) -> bool
     ensures { result ≡ is_this text.now word.now seen }
 {
     seen.token == Token::Word && same_word(text, seen.from, seen.next, word)
-}
-
-// Where the text goes on behind a token that passes the test, or the token's refusal.
-fn expect<F: FnOnce(Lexeme) -> bool>(text: &[u8], at: usize, test: F) -> Result<usize, TextFault>
-    requires { F.IsAlwaysCallable test }
-    ensures { let seen = look_at text.now at in
-        (passes : Bool) × F.post test seen passes × (result ≡ expected passes seen) }
-{
-    let seen = look(text, at);
-    if !test(seen) {
-        return Err(seen.misplaced());
-    }
-    Ok(seen.next)
 }
 
 #[tactic(auto, unfolding(grammar::specs::Sections::word_in))]
@@ -82,8 +69,8 @@ pub(crate) fn third_begins(text: &[u8], at: usize) -> bool
 
 // The words of the third section's header.
 fn third_words(text: &[u8], at: usize) -> Result<usize, TextFault>
-    ensures { result ≡ then_at (word_in text.now (codes "Environment") at) (λ a.
-        then_at (word_in text.now (codes "Global") a) (λ b. word_in text.now (codes "Constraints") b)) }
+    ensures { result ≡ then_ok (word_in text.now (codes "Environment") at) (λ a.
+        then_ok (word_in text.now (codes "Global") a) (λ b. word_in text.now (codes "Constraints") b)) }
 {
     let first = expect_word(text, b"Environment", at)?;
     let second = expect_word(text, b"Global", first)?;
