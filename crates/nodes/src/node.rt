@@ -1,6 +1,6 @@
 // A node of a written formula.
 
-// A unary operator with its bounds.
+/// A unary operator with its bounds.
 #[derive(Clone, Copy)]
 pub enum Prefix {
     Not,
@@ -9,7 +9,7 @@ pub enum Prefix {
     Eventually(u16, u16),
 }
 
-// A binary operator, tightest first.
+/// A binary operator, tightest first.
 #[derive(Clone, Copy)]
 pub enum Connective {
     And,
@@ -18,7 +18,7 @@ pub enum Connective {
     Equivalent,
 }
 
-// A node names its parts by their places in the list.
+/// A node names its parts by their places in the list.
 #[derive(Clone, Copy)]
 pub enum Node {
     Constant(bool),

@@ -4,7 +4,8 @@ ghost use Rattle.nodes.specs.Trees.{ordered as in_order};
 
 use super::node::Node;
 
-// Both formulas in one list of at most 1,024 nodes, each named by its place.
+/// Both formulas in one list of at most 1,024 nodes, each named by its place.
+/// The type is Copy and takes no heap, so the list is an array and a count.
 #[derive(Clone, Copy)]
 pub struct Syntax {
     pub nodes: [Node; 1024],

@@ -1,6 +1,5 @@
 -- What a new node holds: a unary operator before a part, or two parts joined.
 use Rattle.std.proofs.Common.{◌≡◌, ℕ, ◌<◌, List, ap, ◌∙◌, arith}
-use Rattle.std.proofs.lemmas.Bool.{lt-ltb}
 use Rattle.index.specs.declared.Slot.{Slot}
 use Rattle.names.specs.declared.Name.{Name}
 use Rattle.nodes.specs.declared.node.Connective.{Connective}
@@ -14,7 +13,7 @@ use Rattle.parser.specs.declared.reader.Reader.{Reader}
 use Rattle.parser.specs.declared.reader.Part.{Part}
 use Rattle.parser.specs.Naming.{names_of}
 use Rattle.parser.specs.Reading.{tree_at, state_at, Went, Pushed}
-use Rattle.parser.proofs.Moves.{went_earlier, went_both, went_pushed, below_both, good_is}
+use Rattle.parser.proofs.Moves.{went_earlier, went_both, went_pushed, good_is}
 
 module _ {text : List ℕ} {at from : ℕ} {s s₁ : Reader} {slots : List (Slot Name)} {p : Part} (lt : at < from)
     (w : Went 0 text from s s₁ slots p) where
@@ -25,7 +24,7 @@ module _ {text : List ℕ} {at from : ℕ} {s s₁ : Reader} {slots : List (Slot
 module _ {text : List ℕ} {at from : ℕ} {s s₁ s₂ : Reader} {slots : List (Slot Name)} {p q : Part} {u : Prefix}
     (lt : at < from) (w : Went 0 text from s s₁ slots p) (put : Pushed s₁ (node.Unary u p.root) p.next s₂ q) where
   pub unary_went : Went 0 text at s s₂ slots q
-  unary_went = went_pushed (opened lt w) put (lt-ltb _ _ w.root)
+  unary_went = went_pushed (opened lt w) put
 
   pub unary_good : good (apply u (tree_at s₁ p.root)) (state_at s₁ p.next) ≡ good (tree_at s₂ q.root) (state_at s₂ q.next)
   unary_good = good_is s₂ q _ _ _ put.top put.next (ap names_of put.names)
@@ -38,7 +37,7 @@ module _ {text : List ℕ} {at from : ℕ} {s s₁ s₂ : Reader} {slots slots' 
 
   module _ {s₃ : Reader} {c : Connective} {r : Part} (put : Pushed s₂ (node.Binary c p.root q.root) q.next s₃ r) where
     pub binary_went : Went 0 text at s s₃ slots' r
-    binary_went = went_pushed both_parts put (below_both _ _ _ (omega (arith, v.root, w.grown)) w.root)
+    binary_went = went_pushed both_parts put
 
     pub binary_good :
         good (join c (tree_at s₁ p.root) (tree_at s₂ q.root)) (state_at s₂ q.next)
@@ -52,7 +51,7 @@ module _ {text : List ℕ} {at : ℕ} {s s₁ s₂ s₃ : Reader} {slots slots' 
     (v : Went 0 text at s s₁ slots p) (w : Went 1 text p.next s₁ s₂ slots' q)
     (put : Pushed s₂ (node.Binary connective.And p.root q.root) q.next s₃ r) where
   pub line_went : Went 0 text at s s₃ slots' r
-  line_went = went_pushed (went_both v w) put (below_both _ _ _ (omega (arith, v.root, w.grown)) w.root)
+  line_went = went_pushed (went_both v w) put
 
   pub line_good :
       good (conjunction (tree_at s₁ p.root) (tree_at s₂ q.root)) (state_at s₂ q.next)

@@ -1,14 +1,14 @@
 -- How a reader goes on: a token, a node, a part and then another.
-use Rattle.std.proofs.Common.{◌≡◌, ℕ, ◌+◌, ◌<◌, ◌≤◌, true, ◌&&◌, ltb, List, length, IsErrAnd, Ok, Err, Result, sym, refl, ap, ◌∙◌, subst, arith}
+use Rattle.std.proofs.Common.{◌≡◌, ℕ, ◌+◌, ◌<◌, ◌≤◌, true, ◌&&◌, ltb, List, length, get_or, take, IsErrAnd, Ok, Err, Result, sym, refl, ap, ◌∙◌, subst, arith}
 use Rattle.std.proofs.lemmas.Bool.{and_from, lt-ltb, cond-true}
 use Rattle.faults.specs.declared.TextFault.{TextFault}
 use Rattle.index.specs.declared.Slot.{Slot}
 use Rattle.names.specs.declared.Name.{Name}
 use Rattle.nodes.specs.declared.node.Node.{Node}
 use Rattle.nodes.specs.declared.node.Node.TheVariants as node
-use Rattle.nodes.specs.Trees.{parts_below}
+use Rattle.nodes.specs.Trees.{trees_of}
 use Rattle.grammar.specs.Grammar.{Out, good, stop, named}
-use Rattle.temporal.specs.Written.{Written, variable}
+use Rattle.temporal.specs.Written.{Written, truth, variable}
 use Rattle.lexer.specs.declared.token.Lexeme.{Lexeme}
 use Rattle.parser.specs.declared.reader.Reader.{Reader}
 use Rattle.parser.specs.declared.reader.Part.{Part}
@@ -18,12 +18,12 @@ use Rattle.parser.specs.Reading.{tree_at, state_at, Ready, Went, Reads, Pushed}
 
 module _ {slots : List (Slot Name)} {s : Reader} {at : ℕ} (r : Ready slots s at) where
   pub ready_on : (n : ℕ) → at ≤ n → Ready slots s n
-  ready_on n h = record { few = omega (arith, r.few); ordered = r.ordered; known = r.known }
+  ready_on n h = record { few = omega (arith, r.few); known = r.known }
 
   pub ready_behind :
       {text : List ℕ} {spare : ℕ} {s' : Reader} {slots' : List (Slot Name)} {p : Part} → Went spare text at s s' slots' p →
       Ready slots' s' p.next
-  ready_behind w = record { few = omega (arith, r.few, w.few); ordered = w.ordered; known = w.known }
+  ready_behind w = record { few = omega (arith, r.few, w.few); known = w.known }
 
   -- there is room for one more node
   pub room_behind :
@@ -33,16 +33,15 @@ module _ {slots : List (Slot Name)} {s : Reader} {at : ℕ} (r : Ready slots s a
 
   -- a first node, for a token
   pub went_node :
-      {text : List ℕ} {s' : Reader} {x : Node} {n : ℕ} {p : Part} → at < n → n ≤ length text → parts_below s.count x ≡ true →
-      Pushed s x n s' p → Went 0 text at s s' slots p
-  went_node lt le b p = record {
+      {text : List ℕ} {s' : Reader} {x : Node} {n : ℕ} {p : Part} → at < n → n ≤ length text → Pushed s x n s' p →
+      Went 0 text at s s' slots p
+  went_node lt le p = record {
     onward = omega (arith, p.next);
     in_text = omega (arith, p.next);
     few = omega (arith, p.next, p.count);
     root = omega (arith, p.root, p.count);
     grown = omega (arith, p.count);
     kept = p.kept;
-    ordered = p.ordered r.ordered b;
     known = let P : Names → Type 0 = λ n. Known slots n in subst P (sym p.names) r.known;
   }
 
@@ -57,7 +56,6 @@ module _ {spare : ℕ} {text : List ℕ} {at : ℕ} {s s' : Reader} {slots : Lis
     root = w.root;
     grown = w.grown;
     kept = w.kept;
-    ordered = w.ordered;
     known = w.known;
   }
 
@@ -69,7 +67,6 @@ module _ {spare : ℕ} {text : List ℕ} {at : ℕ} {s s' : Reader} {slots : Lis
     root = w.root;
     grown = w.grown;
     kept = w.kept;
-    ordered = w.ordered;
     known = w.known;
   }
 
@@ -84,7 +81,6 @@ module _ {spare : ℕ} {text : List ℕ} {at : ℕ} {s s' : Reader} {slots : Lis
     root = omega (arith, w.root);
     grown = w.grown;
     kept = w.kept;
-    ordered = w.ordered;
     known = w.known;
   }
 
@@ -97,7 +93,6 @@ module _ {spare : ℕ} {text : List ℕ} {at : ℕ} {s s' : Reader} {slots : Lis
     root = w.root;
     grown = omega arith;
     kept = λ i h. refl;
-    ordered = w.ordered;
     known = w.known;
   }
 
@@ -113,22 +108,20 @@ module _ {spare : ℕ} {text : List ℕ} {at : ℕ} {s s' : Reader} {slots : Lis
     root = w.root;
     grown = omega (arith, v.grown, w.grown);
     kept = λ i h. w.kept i (omega (arith, v.grown)) ∙ v.kept i h;
-    ordered = w.ordered;
     known = w.known;
   }
 
 -- a spare byte is spent on a node
 pub went_pushed :
     {spare : ℕ} {text : List ℕ} {at : ℕ} {s s' s'' : Reader} {slots : List (Slot Name)} {p q : Part} {x : Node} →
-    Went (spare + 1) text at s s' slots p → Pushed s' x p.next s'' q → parts_below s'.count x ≡ true → Went spare text at s s'' slots q
-went_pushed {slots = slots} w p b = record {
+    Went (spare + 1) text at s s' slots p → Pushed s' x p.next s'' q → Went spare text at s s'' slots q
+went_pushed {slots = slots} w p = record {
   onward = omega (arith, w.onward, p.next);
   in_text = omega (arith, w.in_text, p.next);
   few = omega (arith, w.few, p.next, p.count);
   root = omega (arith, p.root, p.count);
   grown = omega (arith, w.grown, p.count);
   kept = λ i h. p.kept i (omega (arith, w.grown)) ∙ w.kept i h;
-  ordered = p.ordered w.ordered b;
   known = let P : Names → Type 0 = λ n. Known slots n in subst P (sym p.names) w.known;
 }
 
@@ -151,28 +144,25 @@ pub good_is :
     good t (record { at = n; names = names }) ≡ good (tree_at s p.root) (state_at s p.next)
 good_is s p t n names e h k = λ i. good (sym e i) (record { at = sym h i; names = sym k i })
 
--- the reader with another table of names
-abbrev pub renamed : Reader → Names → Reader
-renamed s n = record { nodes = s.nodes; count = s.count; names = n }
-
+-- a variable's name is declared first, which leaves the nodes, and then its node is added
 pub variable_read :
-    {text : List ℕ} {slots slots' : List (Slot Name)} {s s' : Reader} {at : ℕ} (x : Lexeme) {n : Names} {name : Name} {v : ℕ} {p : Part} →
-    Ready slots s at → at ≤ x.from → x.from < x.next → x.next ≤ length text → Has s.names name slots' n v →
-    Pushed (renamed s n) (node.Variable v) x.next s' p →
+    {text : List ℕ} {slots slots' : List (Slot Name)} {s s₁ s' : Reader} {at : ℕ} (x : Lexeme) {name : Name} {v : ℕ} {p : Part} →
+    s₁.nodes ≡ s.nodes → s₁.count ≡ s.count → Ready slots s at → at ≤ x.from → x.from < x.next → x.next ≤ length text →
+    Has s.names name slots' s₁.names v → Pushed s₁ (node.Variable v) x.next s' p →
     (named name x (state_at s at) ≡ good (tree_at s' p.root) (state_at s' p.next)) × Went 0 text at s s' slots' p
-variable_read {text} {slots} {slots'} {s} {s'} {at} x {n} {name} {v} {p} r a b d h p' =
-    let r' : Ready slots' (renamed s n) at = record { few = r.few; ordered = r.ordered; known = h.known } in
-    let w = went_node r' (omega arith) d refl p' in (
+variable_read {text} {slots} {slots'} {s} {s₁} {s'} {at} x {name} {v} {p} nodes count r a b d h p' =
+    let r₁ : Ready slots' s₁ at = record { few = omega (arith, r.few, count); known = h.known } in
+    let w = went_node r₁ (omega arith) d p' in
+    let same : (i : ℕ) → tree_at s₁ i ≡ tree_at s i = λ i j. get_or (trees_of (take (count j) (nodes j))) i truth in (
       cond-true _ _ _ (lt-ltb _ _ h.few)
           ∙ good_is s' p _ _ _ (p'.top ∙ ap variable h.variable) p'.next (ap names_of p'.names ∙ h.names),
       record {
         onward = w.onward;
         in_text = w.in_text;
-        few = w.few;
+        few = omega (arith, w.few, count);
         root = w.root;
-        grown = w.grown;
-        kept = w.kept;
-        ordered = w.ordered;
+        grown = omega (arith, w.grown, count);
+        kept = λ i lt. w.kept i (omega (arith, lt, count)) ∙ same i;
         known = w.known;
       },
     )

@@ -1,6 +1,6 @@
 -- One more node at the end of a list of nodes.
-use Rattle.std.proofs.Common.{◌≡◌, ℕ, suc, ◌+◌, true, List, [], ◌∷◌, ◌++◌, length, get_or, fold, sym, refl, ap, ◌∙◌, arith}
-use Rattle.std.proofs.lemmas.List.{get_or_append_left, get_or_push, length_push}
+use Rattle.std.proofs.Common.{◌≡◌, ℕ, suc, ◌+◌, true, List, [], ◌∷◌, ◌++◌, length, get_or, fold, sym, refl, ap, ◌∙◌, arith, ◌<◌, take, set, length-take}
+use Rattle.std.proofs.lemmas.List.{get_or_append_left, get_or_push, length_push, take_more_set}
 use Rattle.std.proofs.lemmas.List.Sums.{fold_push}
 use Rattle.std.proofs.lemmas.Bool.{and_parts, and_from}
 use Rattle.temporal.specs.Written.{Written, truth}
@@ -44,7 +44,13 @@ pushed s s' x p n e l r next count names =
       names = names;
       kept = λ i h. ap (λ us. get_or us i truth) u ∙ get_or_append_left ts (grow ts x ∷ []) truth i (omega (arith, long));
       top = ap (λ us. get_or us p.root truth) u ∙ get_or_push ts (grow ts x) truth p.root (long ∙ sym r);
-      ordered =
-          λ o b. ap in_order e ∙ ordered_push 0 (listed s) x o
-          (ap (λ j. parts_below j x) (let z : s.count ≡ 0 + length (listed s) = omega (arith, l) in sym z) ∙ b);
     }
+
+-- parts still stand before wholes with x behind the others, its parts
+pub pushed_order :
+    (s : Reader) (x : Node) → s.count < length s.nodes → parts_below s.count x ≡ true →
+    in_order (take (s.count + 1) (set s.nodes s.count x)) ≡ true
+pushed_order s x room b =
+    let l : s.count ≡ 0 + length (listed s) = omega (arith, length-take s.count s.nodes, s.held) in
+    ap in_order (take_more_set s.nodes s.count x room)
+    ∙ ordered_push 0 (listed s) x s.ordered (ap (λ j. parts_below j x) (sym l) ∙ b)

@@ -9,7 +9,7 @@ use Rattle.names.specs.declared.Name.{Name}
 use Rattle.temporal.specs.Written.{Written, truth}
 use Rattle.nodes.specs.declared.node.Connective.{Connective}
 use Rattle.nodes.specs.declared.node.Node.{Node}
-use Rattle.nodes.specs.Trees.{grow, trees_of, parts_below, ordered as in_order}
+use Rattle.nodes.specs.Trees.{grow, trees_of}
 use Rattle.grammar.specs.Grammar.{State, Out, Parser, good, stop, named, word_name, unary_by, operand_by, chain_of, arrow_of, inside}
 use Rattle.grammar.specs.Sections.{Form, formed, refused}
 use Rattle.parser.specs.declared.reader.Cursor.{Cursor}
@@ -29,10 +29,9 @@ tree_at s i = slice_index_or (trees_of (listed s)) i truth
 abbrev pub state_at : Reader → ℕ → State
 state_at s at = record { at = at; names = names_of s.names }
 
--- A reader may read on at `at`: each node so far took a byte, parts stand before wholes, and the names are indexed.
+-- A reader may read on at `at`: each node so far took a byte, and the names are indexed.
 pub record Ready (slots : List (Slot Name)) (s : Reader) (at : ℕ) : Type 0 where
   pub few : s.count ≤ at
-  pub ordered : in_order (listed s) ≡ true
   pub known : Known slots s.names
 
 -- the token x has bytes, and stands in the text at `at` or after it
@@ -50,7 +49,6 @@ pub record Went (spare : ℕ) (text : List ℕ) (at : ℕ) (s s' : Reader) (slot
   pub root : p.root < s'.count
   pub grown : s.count ≤ s'.count
   pub kept : (i : ℕ) → i < s.count → tree_at s' i ≡ tree_at s i
-  pub ordered : in_order (listed s') ≡ true
   pub known : Known slots s'.names
 
 -- What a reader answers is the outcome o: the formula stands at the part's root, or the refusal is the same.
@@ -93,7 +91,6 @@ pub record Pushed (s : Reader) (x : Node) (n : ℕ) (s' : Reader) (p : Part) : T
   pub names : s'.names ≡ s.names
   pub kept : (i : ℕ) → i < s.count → tree_at s' i ≡ tree_at s i
   pub top : tree_at s' p.root ≡ grow (trees_of (listed s)) x
-  pub ordered : in_order (listed s) ≡ true → parts_below s.count x ≡ true → in_order (listed s') ≡ true
 
 -- a reader that has read nothing
 pub record Begun (s : Reader) : Type 0 where
@@ -103,8 +100,6 @@ pub record Begun (s : Reader) : Type 0 where
 
 -- both formulas are among the nodes
 pub record Rooted (s : Reader) (r : Roots) : Type 0 where
-  pub few : s.count ≤ 1024
-  pub ordered : in_order (listed s) ≡ true
   pub initial : r.initial < s.count
   pub safety : r.safety < s.count
 

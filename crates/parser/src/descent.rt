@@ -39,16 +39,15 @@ impl Reader {
                 if !close.token.is_symbol(Symbol::Close) {
                     return Err(close.misplaced());
                 }
-                Ok(Part {
-                    root: part.root,
-                    next: close.next,
-                })
+                let next = close.next;
+                Ok(Part { next, ..part })
             }
         }
     }
 
     // What stands beside a binary operator: each has the next tighter one.
     #[cycle(arrow_chain_operand_unary)]
+    #[tactic(auto, unfolding(grammar::specs::Grammar::operand_by))]
     fn operand(
         &mut self,
         of: Connective,

@@ -1,6 +1,7 @@
 // What the descent does besides descending: the nesting left, names and new nodes.
-ghost use Rattle.std.specs.Prelude.{◌≡◌, ◌<◌, ◌≤◌, length};
+ghost use Rattle.std.specs.Prelude.{◌≡◌, ◌<◌, ◌≤◌, true, length};
 ghost use Rattle.nodes.specs.declared.node.Node.TheVariants as node;
+ghost use Rattle.nodes.specs.Trees.{parts_below};
 ghost use Rattle.grammar.specs.Grammar.{word_name};
 ghost use Rattle.parser.specs.Parsing.{Kept};
 ghost use Rattle.parser.specs.Reading.{Ahead, Begun, Deeper, Pushed, ReadsBy, Ready, Rooted, variable_with};
@@ -40,9 +41,10 @@ impl Reader {
         }
     }
 
-    // Adds a node behind the others; the text goes on at `next`.
+    // Adds a node behind the others, its parts; the text goes on at `next`.
     pub(crate) fn push(&mut self, node: Node, next: usize) -> Part
-        requires { self.old.count < 1024 }
+        requires room { self.old.count < 1024 }
+        requires below { parts_below self.old.count node ≡ true }
         ensures { Pushed self.old node next self.new result }
     {
         let root = self.count;
@@ -53,7 +55,8 @@ impl Reader {
 
     // Two parts under a binary operator.
     pub(crate) fn join(&mut self, by: Connective, left: Part, right: Part) -> Part
-        requires { self.old.count < 1024 }
+        requires room { self.old.count < 1024 }
+        requires below { (left.root < self.old.count) × (right.root < self.old.count) }
         ensures { Pushed self.old (node.Binary by left.root right.root) right.next self.new result }
     {
         self.push(Node::Binary(by, left.root, right.root), right.next)
@@ -82,13 +85,17 @@ impl Reader {
         requires { Rooted self roots }
         ensures { Kept self roots result }
     {
-        let nodes = self.nodes;
-        let names = self.names;
+        let Reader {
+            nodes,
+            count,
+            names,
+        } = self;
+        let Roots { initial, safety } = roots;
         let syntax = Syntax {
             nodes,
-            count: self.count,
-            initial: roots.initial,
-            safety: roots.safety,
+            count,
+            initial,
+            safety,
         };
         Parsed { syntax, names }
     }

@@ -1,15 +1,18 @@
 // What a reader holds, and what it answers.
-ghost use Rattle.std.specs.Prelude.{◌≤◌, length};
+ghost use Rattle.std.specs.Prelude.{◌≡◌, ◌≤◌, true, length, take};
+ghost use Rattle.nodes.specs.Trees.{ordered as in_order};
 
 use super::table::Names;
 use nodes::node::Node;
 
-// The formulas read so far, parts before wholes, and the names met so far.
+// The formulas read so far, parts before wholes, and the names met so far. There is no heap, so the nodes are an array and a count.
 #[derive(Drop)]
 pub(crate) struct Reader {
     pub(crate) nodes: [Node; 1024],
     pub(crate) count: usize,
     pub(crate) names: Names,
+    ghost held: { count ≤ length nodes },
+    ghost ordered: { in_order (take count nodes) ≡ true },
 }
 
 // A place in a text of at most 1,024 bytes.

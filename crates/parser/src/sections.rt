@@ -21,10 +21,7 @@ impl Reader {
         let at = skip_lines(text, from.at);
         let part = self.arrow(Connective::Equivalent, slots, Cursor { text, at }, 32)?;
         let next = expect_line(text, part.next)?;
-        Ok(Part {
-            root: part.root,
-            next,
-        })
+        Ok(Part { next, ..part })
     }
 
     // The safety lines, joined by conjunction from the left.

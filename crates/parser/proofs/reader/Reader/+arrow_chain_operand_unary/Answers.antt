@@ -1,4 +1,5 @@
 use Rattle.std.proofs.Common.{◌-◌, ◌<◌, length, Some, None, sym, refl, ap, ◌∙◌, subst, arith}
+use Rattle.std.proofs.lemmas.Bool.{lt-ltb}
 use Rattle.lexer.specs.declared.token.Symbol.TheVariants as symbol
 use Rattle.lexer.specs.Tokens.{is_symbol}
 use Rattle.nodes.specs.declared.node.Connective.{Connective}
@@ -99,37 +100,6 @@ chain-operands-preserved t c =
       binary_went i.3 lt f.1 c.join-part.ensures,
     )
 
--- operand
-
-pub operand-returns-in-And : goal.operand-returns-in-And
-unfolding operand_by
-operand-returns-in-And t c =
-    let P : Connective → Type 0 =
-    λ of. ReadsBy 0 (operand_with c.args.left of) c.args.from c.args.self.now c.unary.new.self c.unary.new.slots c.unary.result in
-    subst P (sym c.in-And.is) c.unary.ensures
-
-pub operand-returns-in-Or : goal.operand-returns-in-Or
-unfolding operand_by
-operand-returns-in-Or t c =
-    let P : Connective → Type 0 =
-    λ of. ReadsBy 0 (operand_with c.args.left of) c.args.from c.args.self.now c.chain.new.self c.chain.new.slots c.chain.result in
-    subst P (sym c.in-Or.is) c.chain.ensures
-
-pub operand-returns-in-Implies : goal.operand-returns-in-Implies
-unfolding operand_by
-operand-returns-in-Implies t c =
-    let P : Connective → Type 0 =
-    λ of. ReadsBy 0 (operand_with c.args.left of) c.args.from c.args.self.now c.chain-in-Implies.new.self
-    c.chain-in-Implies.new.slots c.chain-in-Implies.result in
-    subst P (sym c.in-Implies.is) c.chain-in-Implies.ensures
-
-pub operand-returns-in-Equivalent : goal.operand-returns-in-Equivalent
-unfolding operand_by
-operand-returns-in-Equivalent t c =
-    let P : Connective → Type 0 =
-    λ of. ReadsBy 0 (operand_with c.args.left of) c.args.from c.args.self.now c.arrow.new.self c.arrow.new.slots c.arrow.result in
-    subst P (sym c.in-Equivalent.is) c.arrow.ensures
-
 -- unary
 
 pub unary-returns-in_err-head : goal.unary-returns-in_err-head
@@ -189,7 +159,10 @@ unary-push-requires-in-Prefix t c =
     let g =
     prefix_ok c.args.from.text.now c.look-seen.result.next c.in-Prefix.operator c.in_ok-prefixed-in-Prefix.prefixed
     (sym c.in_ok-prefixed-in-Prefix.ensures) in
-    room_behind c.requires c.args.from.short (opened (omega (arith, v.after, lt, g.after)) c.in_ok-part-in-Prefix.ensures.1)
+    let d = c.in_ok-part-in-Prefix.ensures.1 in record {
+      room = room_behind c.requires c.args.from.short (opened (omega (arith, v.after, lt, g.after)) d);
+      below = lt-ltb _ _ d.root;
+    }
 
 pub unary-returns-in_err-left-in-Group : goal.unary-returns-in_err-left-in-Group
 unary-returns-in_err-left-in-Group t c =
@@ -218,7 +191,7 @@ unary-returns-in-Constant t c =
     let h = ap Some (sym c.in-Constant.is) ∙ sym c.in_ok-head.ensures.ok_part ∙ c.head_of.ensures in
     let p = c.push.ensures in (
       unary_is _ _ _ _ v.value _ h ∙ good_is c.push.new.self c.push.result _ _ _ p.top p.next (ap names_of p.names),
-      went_node c.requires (omega (arith, v.after, head_reads v _ h)) (v.in_text c.args.from.inside) refl p,
+      went_node c.requires (omega (arith, v.after, head_reads v _ h)) (v.in_text c.args.from.inside) p,
     )
 
 pub unary-returns-in-Variable : goal.unary-returns-in-Variable

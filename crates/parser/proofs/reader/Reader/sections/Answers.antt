@@ -52,16 +52,11 @@ pub returns : goal.returns
 returns c =
     let v = c.in_ok-initial.ensures in
     let w = c.in_ok-safety.ensures in
-    let first = header_ok c.args.text.now _ _ 0 _ c.in_ok-at.ensures in
-    let second = header_ok c.args.text.now _ _ _ _ c.in_ok-at-2.ensures in
-    let begin = ready_on (ready_behind (ready_on c.requires.ready.0 _ first.after) v.1) _ second.after in
-    let end = ready_behind begin w.1 in (
+    (
       third_read _ _ c.in_ok-at.ensures _ (begins c.args.self.now _ c.requires.ready.1) _ _ v.0
           _ c.in_ok-at-2.ensures _ _ w.0 _ c.skip_lines.ensures _ c.in_ok-third_section.ensures
           ∙ formed_later _ _ _ _ (w.1.kept _ v.1.root),
       record {
-        few = omega (arith, end.few, w.1.in_text, c.requires.short);
-        ordered = w.1.ordered;
         initial = omega (arith, v.1.root, w.1.grown);
         safety = w.1.root;
       },

@@ -1,4 +1,4 @@
-use Rattle.std.proofs.Common.{ℕ, Option, subst}
+use Rattle.std.proofs.Common.{ℕ, Option, refl, subst}
 use Rattle.names.specs.declared.Name.{Name}
 use Rattle.parser.specs.Naming.{Declared, Has}
 use Rattle.parser.proofs.Moves.{variable_read}
@@ -12,4 +12,4 @@ returns c =
     λ name. Has c.args.self.now.names name c.declare.new.slots c.declare.new.self c.in_ok-variable.variable in
     let h = subst P c.name_at-name.ensures (subst D c.in_ok-variable.ensures.ok_part c.declare.ensures) in
     let q = c.requires in
-    variable_read c.args.seen q.0 q.1.after q.1.bytes q.1.in_text h c.push.ensures
+    variable_read c.args.seen refl refl q.0 q.1.after q.1.bytes q.1.in_text h c.push.ensures
