@@ -1,10 +1,11 @@
 -- What the bounds behind a unary operator keep: they move on, stay in the text, and lie in their ranges.
 use Rattle.std.proofs.Common.{◌≡◌, ℕ, ◌≤◌, List, length, Ok, Err, Result, arith}
+use Rattle.std.specs.Result.{IfOk}
 use Rattle.faults.specs.declared.TextFault.{TextFault}
 use Rattle.lexer.specs.declared.bounds.Bound.{Bound}
 use Rattle.lexer.specs.declared.bounds.Range.{Range}
 use Rattle.lexer.specs.declared.token.Operator.TheVariants as operator
-use Rattle.lexer.specs.Bounds.{WhenOk, GoodBound, GoodRange, bound_in, range_in}
+use Rattle.lexer.specs.Bounds.{GoodBound, GoodRange, bound_in, range_in}
 use Rattle.lexer.proofs.Limits.{when_ok, bound_good, range_good}
 use Rattle.nodes.specs.declared.node.Prefix.{Prefix}
 use Rattle.nodes.specs.declared.node.Prefix.TheVariants as prefix
@@ -27,23 +28,23 @@ pub record GoodPrefix (text : List ℕ) (at : ℕ) (p : Prefixed) : Type 0 where
   pub bounded : Bounded p.prefix
 
 module _ (text : List ℕ) (at : ℕ) where
-  next_good : (r : Result Bound TextFault) → WhenOk (GoodBound text at) r → WhenOk (GoodPrefix text at) (next_prefix r)
+  next_good : (r : Result Bound TextFault) → IfOk r (GoodBound text at) → IfOk (next_prefix r) (GoodPrefix text at)
   next_good (Ok b) h = record { after = h.after; in_text = h.in_text; bounded = (h.least, h.most) }
   next_good (Err f) h = tt
 
   always_good :
-      (r : Result Range TextFault) → WhenOk (GoodRange text at) r →
-      WhenOk (GoodPrefix text at) (range_prefix (λ n m. prefix.Always n m) r)
+      (r : Result Range TextFault) → IfOk r (GoodRange text at) →
+      IfOk (range_prefix (λ n m. prefix.Always n m) r) (GoodPrefix text at)
   always_good (Ok b) h = record { after = h.after; in_text = h.in_text; bounded = (h.ordered, h.most) }
   always_good (Err f) h = tt
 
   eventually_good :
-      (r : Result Range TextFault) → WhenOk (GoodRange text at) r →
-      WhenOk (GoodPrefix text at) (range_prefix (λ n m. prefix.Eventually n m) r)
+      (r : Result Range TextFault) → IfOk r (GoodRange text at) →
+      IfOk (range_prefix (λ n m. prefix.Eventually n m) r) (GoodPrefix text at)
   eventually_good (Ok b) h = record { after = h.after; in_text = h.in_text; bounded = (h.ordered, h.most) }
   eventually_good (Err f) h = tt
 
-  pub prefix_good : (u : Unary) → WhenOk (GoodPrefix text at) (prefix_in text u at)
+  pub prefix_good : (u : Unary) → IfOk (prefix_in text u at) (GoodPrefix text at)
   prefix_good unary.Not = record { after = omega arith; in_text = λ h. h; bounded = tt }
   prefix_good (unary.Temporal operator.Next) = next_good (bound_in text at) (bound_good text at)
   prefix_good (unary.Temporal operator.Always) = always_good (range_in text at) (range_good text at)

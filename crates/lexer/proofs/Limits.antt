@@ -1,5 +1,6 @@
 -- What bounds that were read keep: they move on, stay in the text, and lie in their ranges.
 use Rattle.std.proofs.Common.{◌≡◌, ℕ, ◌≤◌, false, List, length, Some, None, Ok, Err, Option, Result, subst, arith}
+use Rattle.std.specs.Result.{IfOk}
 use Rattle.std.proofs.lemmas.Bool.{cond_both}
 use Rattle.std.proofs.lemmas.Bool.Decides.{nat_tests}
 use Rattle.faults.specs.declared.TextFault.{TextFault}
@@ -8,7 +9,7 @@ use Rattle.lexer.specs.declared.bounds.Range.{Range}
 use Rattle.lexer.specs.declared.token.Lexeme.{Lexeme}
 use Rattle.lexer.specs.declared.token.Symbol.{Symbol}
 use Rattle.lexer.specs.declared.token.Symbol.TheVariants as symbol
-use Rattle.lexer.specs.Bounds.{outside, bounded, then_ok, WhenOk, sign_in, number_in, bound_after, bound_in, range_in, GoodBound, GoodRange}
+use Rattle.lexer.specs.Bounds.{outside, bounded, then_ok, sign_in, number_in, bound_after, bound_in, range_in, GoodBound, GoodRange}
 use Rattle.lexer.specs.Lexer.{look_at}
 use Rattle.lexer.specs.Tokens.{is_symbol, number_of}
 use Rattle.lexer.proofs.Looks.{look_next, look_in_text}
@@ -16,13 +17,13 @@ use Rattle.lexer.proofs.Looks.{look_next, look_in_text}
 -- what holds of each Ok of a part, and then of the rest, holds of the whole
 pub then_ok_lem :
     {X Y : Type 0} (r : Result X TextFault) (k : X → Result Y TextFault) (P : X → Type 0) (Q : Y → Type 0) →
-    WhenOk P r → ((x : X) → P x → WhenOk Q (k x)) → WhenOk Q (then_ok r k)
+    IfOk r P → ((x : X) → P x → IfOk (k x) Q) → IfOk (then_ok r k) Q
 then_ok_lem (Ok x) k P Q h f = f x h
 then_ok_lem (Err e) k P Q h f = tt
 
 -- of an Ok in hand
-pub when_ok : {X : Type 0} (P : X → Type 0) (r : Result X TextFault) (x : X) → WhenOk P r → r ≡ Ok x → P x
-when_ok P r x h e = subst (WhenOk P) e h
+pub when_ok : {X : Type 0} (P : X → Type 0) (r : Result X TextFault) (x : X) → IfOk r P → r ≡ Ok x → P x
+when_ok P r x h e = subst (λ z. IfOk z P) e h
 
 inside_least : (least n : ℕ) → outside least n ≡ false → least ≤ n
 inside_least least n h = grind (arith, nat_tests)
@@ -47,38 +48,38 @@ module _ (text : List ℕ) where
   pub both_on : (a b c : ℕ) → On a b → On b c → On a c
   both_on a b c p q = record { after = omega (arith, p.after, q.after); in_text = λ h. q.in_text (p.in_text h) }
 
-  pub sign_on : (s : Symbol) (at : ℕ) → WhenOk (On at) (sign_in text s at)
+  pub sign_on : (s : Symbol) (at : ℕ) → IfOk (sign_in text s at) (On at)
   unfolding sign_in
-  sign_on s at = cond_both (is_symbol s (look_at text at).token) _ _ (WhenOk (On at)) (λ _. look_on at) (λ _. tt)
+  sign_on s at = cond_both (is_symbol s (look_at text at).token) _ _ (λ (r : Result ℕ TextFault). IfOk r (On at)) (λ _. look_on at) (λ _. tt)
 
-  bounded_on : (least at : ℕ) (x : Lexeme) (o : Option ℕ) → On at x.next → WhenOk (Numbered least at) (bounded least x o)
+  bounded_on : (least at : ℕ) (x : Lexeme) (o : Option ℕ) → On at x.next → IfOk (bounded least x o) (Numbered least at)
   bounded_on least at x None h = tt
   bounded_on least at x (Some n) h =
-      cond_both (outside least n) _ _ (WhenOk (Numbered least at)) (λ _. tt)
+      cond_both (outside least n) _ _ (λ (r : Result Bound TextFault). IfOk r (Numbered least at)) (λ _. tt)
       (λ e. record { on = h; least = inside_least least n e; most = inside_most least n e })
 
-  pub number_on : (least at : ℕ) → WhenOk (Numbered least at) (number_in text least at)
+  pub number_on : (least at : ℕ) → IfOk (number_in text least at) (Numbered least at)
   unfolding number_in
   number_on least at = bounded_on least at (look_at text at) (number_of (look_at text at).token) (look_on at)
 
-  after_good : (at begin : ℕ) → On at begin → WhenOk (GoodBound text at) (bound_after text begin)
+  after_good : (at begin : ℕ) → On at begin → IfOk (bound_after text begin) (GoodBound text at)
   after_good at begin o =
       then_ok_lem (number_in text 1 begin) _ (Numbered 1 begin) (GoodBound text at) (number_on 1 begin) (λ n h.
       then_ok_lem (sign_in text symbol.Right n.next) _ (On n.next) (GoodBound text at) (sign_on symbol.Right n.next) (λ end e.
       let all = both_on at n.next end (both_on at begin n.next o h.on) e in
       record { after = all.after; in_text = all.in_text; least = h.least; most = h.most }))
 
-  pub bracket_good : (at : ℕ) → WhenOk (GoodBound text at) (bound_after text (look_at text at).next)
+  pub bracket_good : (at : ℕ) → IfOk (bound_after text (look_at text at).next) (GoodBound text at)
   bracket_good at = after_good at (look_at text at).next (look_on at)
 
-  pub bound_good : (at : ℕ) → WhenOk (GoodBound text at) (bound_in text at)
+  pub bound_good : (at : ℕ) → IfOk (bound_in text at) (GoodBound text at)
   unfolding bound_in
   bound_good at =
-      cond_both (is_symbol symbol.Left (look_at text at).token) _ _ (WhenOk (GoodBound text at))
+      cond_both (is_symbol symbol.Left (look_at text at).token) _ _ (λ (r : Result Bound TextFault). IfOk r (GoodBound text at))
       (λ _. bracket_good at)
       (λ _. record { after = omega arith; in_text = λ h. h; least = omega arith; most = omega arith })
 
-  pub range_good : (at : ℕ) → WhenOk (GoodRange text at) (range_in text at)
+  pub range_good : (at : ℕ) → IfOk (range_in text at) (GoodRange text at)
   unfolding range_in
   range_good at =
       let good = GoodRange text at in

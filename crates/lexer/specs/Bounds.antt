@@ -24,11 +24,6 @@ abbrev pub then_ok : {X Y : Type 0} → Result X TextFault → (X → Result Y T
 then_ok (Ok x) k = k x
 then_ok (Err f) k = Err f
 
--- P of what was read, if it was not refused
-abbrev pub WhenOk : {X : Type 0} → (X → Type 0) → Result X TextFault → Type 0
-WhenOk P (Ok x) = P x
-WhenOk P (Err f) = Unit {0}
-
 -- where the text goes on behind the token x, if it passes a test
 abbrev pub expected : Bool → Lexeme → Result ℕ TextFault
 expected passes x = cond passes (Ok x.next) (misplaced x)

@@ -1,6 +1,7 @@
 // The bounds of temporal operators: `[n]` behind X, `[n,m]` behind G and F.
 ghost use Rattle.std.specs.Prelude.{◌≡◌};
-ghost use Rattle.lexer.specs.Bounds.{sign_in, number_in, bound_after, bound_in, range_from, range_in, WhenOk, GoodBound, GoodRange};
+ghost use Rattle.std.specs.Result.{IfOk};
+ghost use Rattle.lexer.specs.Bounds.{sign_in, number_in, bound_after, bound_in, range_from, range_in, GoodBound, GoodRange};
 
 use super::look::{expect, look};
 use super::token::Symbol;
@@ -22,7 +23,7 @@ pub struct Range {
     pub next: usize,
 }
 
-// Where the text goes on behind a symbol that has to stand here.
+/// Where the text goes on behind a symbol that has to stand here.
 #[tactic(auto, unfolding(crate::specs::Bounds::sign_in))]
 fn read_symbol(text: &[u8], at: usize, want: Symbol) -> Result<usize, TextFault>
     ensures { result ≡ sign_in text.now want at }
@@ -30,7 +31,7 @@ fn read_symbol(text: &[u8], at: usize, want: Symbol) -> Result<usize, TextFault>
     expect(text, at, |seen| seen.token.is_symbol(want))
 }
 
-// A number from `least` to 4,095 that has to stand here.
+/// A number from `least` to 4,095 that has to stand here.
 #[tactic(auto, unfolding(crate::specs::Bounds::number_in))]
 fn read_number(text: &[u8], at: usize, least: u16) -> Result<Bound, TextFault>
     ensures { result ≡ number_in text.now least at }
@@ -46,7 +47,7 @@ fn read_number(text: &[u8], at: usize, least: u16) -> Result<Bound, TextFault>
     })
 }
 
-// The number and the bracket that close a bound.
+/// The number and the bracket that close a bound.
 fn bound_after(text: &[u8], begin: usize) -> Result<Bound, TextFault>
     ensures { result ≡ bound_after text.now begin }
 {
@@ -62,7 +63,7 @@ fn bound_after(text: &[u8], begin: usize) -> Result<Bound, TextFault>
 #[tactic(auto, unfolding(crate::specs::Bounds::bound_in))]
 pub fn read_bound(text: &[u8], at: usize) -> Result<Bound, TextFault>
     ensures value { result ≡ bound_in text.now at }
-    ensures bound { WhenOk (GoodBound text.now at) result }
+    ensures bound { IfOk result (GoodBound text.now at) }
 {
     let seen = look(text, at);
     if seen.token.is_symbol(Symbol::Left) {
@@ -72,7 +73,7 @@ pub fn read_bound(text: &[u8], at: usize) -> Result<Bound, TextFault>
     }
 }
 
-// A range by its parts.
+/// A range by its parts.
 fn bracketed(text: &[u8], at: usize) -> Result<Range, TextFault>
     ensures { result ≡ range_from text.now at }
 {
@@ -92,7 +93,7 @@ fn bracketed(text: &[u8], at: usize) -> Result<Range, TextFault>
 #[tactic(auto, unfolding(crate::specs::Bounds::range_in))]
 pub fn read_range(text: &[u8], at: usize) -> Result<Range, TextFault>
     ensures value { result ≡ range_in text.now at }
-    ensures bound { WhenOk (GoodRange text.now at) result }
+    ensures bound { IfOk result (GoodRange text.now at) }
 {
     bracketed(text, at)
 }

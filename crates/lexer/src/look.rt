@@ -28,7 +28,7 @@ impl Class {
     }
 }
 
-// How many bytes of one class stand from `from` on; past the text there are none.
+/// How many bytes of one class stand from `from` on; past the text there are none.
 fn run_len(text: &[u8], from: usize, class: Class) -> usize
     ensures { result ≡ run class text.now from }
 {
@@ -36,7 +36,7 @@ fn run_len(text: &[u8], from: usize, class: Class) -> usize
     rest.take_while(|byte| class.contains(**byte)).count()
 }
 
-// Where the run of bytes of one class that begins at `from` ends.
+/// Where the run of bytes of one class that begins at `from` ends.
 fn run_end(text: &[u8], from: usize, class: Class) -> usize
     ensures value { result ≡ from + run class text.now from }
     ensures bound { ((from ≤ length text.now → result ≤ length text.now)) × (from ≤ result) }
@@ -44,7 +44,7 @@ fn run_end(text: &[u8], from: usize, class: Class) -> usize
     from + run_len(text, from, class)
 }
 
-// A number with one digit more; it stays at 4,096 once it is above 4,095.
+/// A number with one digit more; it stays at 4,096 once it is above 4,095.
 fn longer(value: u16, digit: u8) -> u16
     ensures { result ≡ min (value * 10 + (digit - 48)) 4096 }
 {
@@ -52,7 +52,7 @@ fn longer(value: u16, digit: u8) -> u16
     value.saturating_mul(10).saturating_add(digit).min(4096)
 }
 
-// The value of decimal digits, held at 4,096 once it is above 4,095.
+/// The value of decimal digits, held at 4,096 once it is above 4,095.
 fn number(digits: &[u8]) -> u16
     ensures { result ≡ numeral digits.now }
 {
@@ -75,7 +75,7 @@ fn word(bytes: &[u8]) -> Token
     }
 }
 
-// The byte at a place, and 0 past the text, which no symbol has.
+/// The byte at a place, and 0 past the text, which no symbol has.
 fn byte_at(text: &[u8], i: usize) -> u8
     ensures { result ≡ slice_index text.now i }
 {

@@ -4,7 +4,7 @@ ghost use Rattle.lexer.specs.Tokens.{fault_of, is_symbol, is_line, is_end, refus
 
 use faults::{Reason, TextFault};
 
-// The temporal operators: X, G and F.
+/// The temporal operators: X, G and F.
 #[derive(Clone, Copy, PartialEq, Eq, Debug)]
 pub enum Operator {
     Next,
@@ -26,7 +26,7 @@ pub enum Symbol {
     Comma,
 }
 
-// A byte or a word that no text may have is unknown; a number above 4,095 counts as 4,096.
+/// A byte or a word that no text may have is unknown; a number above 4,095 counts as 4,096.
 #[derive(Clone, Copy, PartialEq, Eq, Debug)]
 pub enum Token {
     End,
@@ -39,7 +39,7 @@ pub enum Token {
     Symbol(Symbol),
 }
 
-// A token, where it begins, and where the text goes on behind it.
+/// A token, where it begins, and where the text goes on behind it.
 #[derive(Clone, Copy, PartialEq, Eq, Debug)]
 pub struct Lexeme {
     pub token: Token,

@@ -1,12 +1,13 @@
 -- Blank lines, line ends and headers.
 use Rattle.std.proofs.Common.{◌≡◌, ℕ, zero, suc, ◌-◌, ◌<◌, Bool, true, false, List, length, Ok, Err, Result, sym, refl, ap, ◌∙◌, subst, ⊎_elim, arith, rules}
+use Rattle.std.specs.Result.{IfOk}
 use Rattle.std.proofs.lemmas.Bool.{cases_Bool}
 use Rattle.faults.specs.declared.TextFault.{TextFault}
 use Rattle.lexer.specs.declared.token.Lexeme.{Lexeme}
 use Rattle.lexer.specs.declared.token.Token.{Token}
 use Rattle.lexer.specs.Lexer.{look_at}
 use Rattle.lexer.specs.Tokens.{is_line, is_end}
-use Rattle.lexer.specs.Bounds.{WhenOk, expected, then_ok}
+use Rattle.lexer.specs.Bounds.{expected, then_ok}
 use Rattle.lexer.proofs.Limits.{On, both_on, when_ok}
 use Rattle.lexer.proofs.Looks.{look_next, look_in_text, look_forward}
 use Rattle.grammar.specs.Sections.{is_this, past_lines, blanks, word_in, line_in, header_in}
@@ -61,33 +62,33 @@ line_not_end : (t : Token) → is_line t ≡ true → is_end t ≡ false
 line_not_end t e = search rules
 
 module _ (text : List ℕ) where
-  expected_on : (b : Bool) (at : ℕ) → WhenOk (On text at) (expected b (look_at text at))
+  expected_on : (b : Bool) (at : ℕ) → IfOk (expected b (look_at text at)) (On text at)
   expected_on true at = look_on text at
   expected_on false at = tt
 
-  word_on : (w : List ℕ) (at : ℕ) → WhenOk (On text at) (word_in text w at)
+  word_on : (w : List ℕ) (at : ℕ) → IfOk (word_in text w at) (On text at)
   unfolding word_in
   word_on w at = expected_on (is_this text w (look_at text at)) at
 
-  line_on : (at : ℕ) → WhenOk (On text at) (line_in text at)
+  line_on : (at : ℕ) → IfOk (line_in text at) (On text at)
   unfolding line_in
   line_on at = expected_on (is_line (look_at text at).token) at
 
   then_on :
-      (at : ℕ) (r : Result ℕ TextFault) (k : ℕ → Result ℕ TextFault) → WhenOk (On text at) r → ((n : ℕ) → WhenOk (On text n) (k n)) →
-      WhenOk (On text at) (then_ok r k)
+      (at : ℕ) (r : Result ℕ TextFault) (k : ℕ → Result ℕ TextFault) → IfOk r (On text at) → ((n : ℕ) → IfOk (k n) (On text n)) →
+      IfOk (then_ok r k) (On text at)
   then_on at (Ok n) k h f = on_from at n (k n) h (f n)
     where
-      on_from : (a n : ℕ) (r : Result ℕ TextFault) → On text a n → WhenOk (On text n) r → WhenOk (On text a) r
+      on_from : (a n : ℕ) (r : Result ℕ TextFault) → On text a n → IfOk r (On text n) → IfOk r (On text a)
       on_from a n (Ok m) h k = both_on text a n m h k
       on_from a n (Err e) h k = tt
   then_on at (Err e) k h f = tt
 
-  from_blanks : (at : ℕ) (r : Result ℕ TextFault) → WhenOk (On text (blanks text at)) r → WhenOk (On text at) r
+  from_blanks : (at : ℕ) (r : Result ℕ TextFault) → IfOk r (On text (blanks text at)) → IfOk r (On text at)
   from_blanks at (Ok n) h = both_on text at (blanks text at) n (blanks_on text at) h
   from_blanks at (Err e) h = tt
 
-  header_on : (v w : List ℕ) (at : ℕ) → WhenOk (On text at) (header_in text v w at)
+  header_on : (v w : List ℕ) (at : ℕ) → IfOk (header_in text v w at) (On text at)
   header_on v w at =
       from_blanks at (header_in text v w at)
       (then_on (blanks text at) (word_in text v (blanks text at)) _ (word_on v (blanks text at))

@@ -6,13 +6,13 @@ use super::table::Names;
 use index::{Slot, find, insert};
 use names::Name;
 
-// The name that fills the table past its count.
+/// The name that fills the table past its count.
 const BLANK: Name = Name {
     bytes: [0; 15],
     length: 0,
 };
 
-// The variable that has so many of its kind before it.
+/// The variable that has so many of its kind before it.
 fn variable_of(environment: bool, rank: u8) -> u8
     requires { rank < 16 }
     ensures { result ≡ (if environment then 0 else 16) + rank }
@@ -34,7 +34,7 @@ impl Names {
         }
     }
 
-    // How many variables the environment or the system has.
+    /// How many variables the environment or the system has.
     fn used(&self, environment: bool) -> u8
         ensures { result ≡ (if environment then self.now.environment else self.now.system) }
     {
@@ -60,7 +60,7 @@ impl Names {
         }
     }
 
-    // The variable of a name, which is a new one where the name was not met before; none where its kind is full.
+    /// The variable of a name, which is a new one where the name was not met before; none where its kind is full.
     pub(crate) fn declare(&mut self, slots: &mut [Slot<Name>], name: Name) -> Option<u8>
         requires { Known slots.old self.old }
         ensures { Declared self.old name slots.new self.new result }

@@ -12,7 +12,7 @@ use names::Name;
 use nodes::node::{Connective, Node};
 
 impl Reader {
-    // A formula up to unary operators.
+    /// A formula up to unary operators.
     #[cycle(arrow_chain_operand_unary)]
     fn unary(&mut self, slots: &mut [Slot<Name>], from: Cursor, left: u8) -> Result<Part, TextFault>
         requires { Ready slots.old self.old from.at }
@@ -45,7 +45,7 @@ impl Reader {
         }
     }
 
-    // What stands beside a binary operator: each has the next tighter one.
+    /// What stands beside a binary operator: each has the next tighter one.
     #[cycle(arrow_chain_operand_unary)]
     #[tactic(auto, unfolding(grammar::specs::Grammar::operand_by))]
     fn operand(
@@ -66,7 +66,7 @@ impl Reader {
         }
     }
 
-    // Operands joined from the left.
+    /// Operands joined from the left.
     #[cycle(arrow_chain_operand_unary)]
     fn chain(
         &mut self,
@@ -91,7 +91,7 @@ impl Reader {
         }
     }
 
-    // Two formulas joined by an arrow, or the first alone.
+    /// Two formulas joined by an arrow, or the first alone.
     #[cycle(arrow_chain_operand_unary)]
     pub(crate) fn arrow(
         &mut self,

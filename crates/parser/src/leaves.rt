@@ -16,7 +16,7 @@ use names::Name;
 use nodes::node::{Connective, Node};
 use nodes::syntax::Syntax;
 
-// The nesting left behind a token that takes one, or its refusal where none is left.
+/// The nesting left behind a token that takes one, or its refusal where none is left.
 pub(crate) fn deeper(left: u8, opener: Lexeme) -> Result<u8, TextFault>
     ensures { Deeper left opener result }
 {
@@ -41,7 +41,7 @@ impl Reader {
         }
     }
 
-    // Adds a node behind the others, its parts; the text goes on at `next`.
+    /// Adds a node behind the others, its parts; the text goes on at `next`.
     pub(crate) fn push(&mut self, node: Node, next: usize) -> Part
         requires room { self.old.count < 1024 }
         requires below { parts_below self.old.count node ≡ true }
@@ -53,7 +53,7 @@ impl Reader {
         Part { root, next }
     }
 
-    // Two parts under a binary operator.
+    /// Two parts under a binary operator.
     pub(crate) fn join(&mut self, by: Connective, left: Part, right: Part) -> Part
         requires room { self.old.count < 1024 }
         requires below { (left.root < self.old.count) × (right.root < self.old.count) }
@@ -62,7 +62,7 @@ impl Reader {
         self.push(Node::Binary(by, left.root, right.root), right.next)
     }
 
-    // The variable that a word names.
+    /// The variable that a word names.
     pub(crate) fn variable(
         &mut self,
         slots: &mut [Slot<Name>],
@@ -80,7 +80,7 @@ impl Reader {
         Ok(self.push(Node::Variable(variable), seen.next))
     }
 
-    // Hands over what was read.
+    /// Hands over what was read.
     pub(crate) fn finish(self, roots: Roots) -> Parsed
         requires { Rooted self roots }
         ensures { Kept self roots result }

@@ -22,7 +22,7 @@ use names::Name;
 use parsed::Parsed;
 use reader::Reader;
 
-// Reads a text with an index that holds no names.
+/// Reads a text with an index that holds no names.
 fn read(text: &[u8], slots: &mut [Slot<Name>]) -> Result<Parsed, TextFault>
     requires { (Indexed name_code slots.old []) × (2048 ≤ length slots.old) }
     ensures { Forms (form_of text.now) result }
@@ -69,14 +69,14 @@ mod tests {
         }),
     };
 
-    // The number and the place of the refusal.
+    /// The number and the place of the refusal.
     fn refusal(text: &[u8], slots: &mut [Slot<Name>]) -> Option<(u8, usize)> {
         parse(text, slots)
             .err()
             .map(|fault| (fault.number(), fault.place()))
     }
 
-    // `open` appears first, so it is the first variable of the system; each line is a part, and the two are joined.
+    /// `open` appears first, so it is the first variable of the system; each line is a part, and the two are joined.
     #[test]
     fn names_and_nodes(rt: HostRuntime) -> Result<(), Fail> {
         let text =
@@ -96,7 +96,7 @@ mod tests {
         Ok(())
     }
 
-    // A formula too many, a variable too many, a text that ends early, and an index that is too short.
+    /// A formula too many, a variable too many, a text that ends early, and an index that is too short.
     #[test]
     fn refusals(rt: HostRuntime) {
         let mut slots = [SLOT; 2048];

@@ -8,7 +8,7 @@ use faults::TextFault;
 use lexer::look::{expect, look, same_word};
 use lexer::token::{Lexeme, Token};
 
-// Whether a token is this word.
+/// Whether a token is this word.
 fn is_this(text: &[u8], word: &[u8], seen: Lexeme) -> bool
     ensures { result ≡ is_this text.now word.now seen }
 {
@@ -29,7 +29,7 @@ pub(crate) fn expect_line(text: &[u8], at: usize) -> Result<usize, TextFault>
     expect(text, at, |seen| seen.token.is_line())
 }
 
-// Past blank lines.
+/// Past blank lines.
 pub(crate) fn skip_lines(text: &[u8], at: usize) -> usize
     ensures { result ≡ blanks text.now at }
 {
@@ -43,7 +43,7 @@ pub(crate) fn skip_lines(text: &[u8], at: usize) -> usize
     }
 }
 
-// A header of two words on a line of its own.
+/// A header of two words on a line of its own.
 pub(crate) fn header(
     text: &[u8],
     first: &[u8],
@@ -57,7 +57,7 @@ pub(crate) fn header(
     expect_line(text, end)
 }
 
-// Whether the third section begins here.
+/// Whether the third section begins here.
 #[tactic(auto, unfolding(grammar::specs::Sections::third_begins))]
 pub(crate) fn third_begins(text: &[u8], at: usize) -> bool
     ensures { result ≡ third_begins text.now at }
@@ -67,7 +67,7 @@ pub(crate) fn third_begins(text: &[u8], at: usize) -> bool
     is_this(text, b"Environment", first) && is_this(text, b"Global", second)
 }
 
-// The words of the third section's header.
+/// The words of the third section's header.
 fn third_words(text: &[u8], at: usize) -> Result<usize, TextFault>
     ensures { result ≡ then_ok (word_in text.now (codes "Environment") at) (λ a.
         then_ok (word_in text.now (codes "Global") a) (λ b. word_in text.now (codes "Constraints") b)) }
@@ -77,7 +77,7 @@ fn third_words(text: &[u8], at: usize) -> Result<usize, TextFault>
     expect_word(text, b"Constraints", second)
 }
 
-// The third section up to the end of the text. The last line's end may be missing.
+/// The third section up to the end of the text. The last line's end may be missing.
 #[tactic(auto, unfolding(grammar::specs::Sections::true_in, grammar::specs::Sections::last_in, grammar::specs::Sections::end_in))]
 pub(crate) fn third_section(text: &[u8], at: usize) -> Result<usize, TextFault>
     ensures { result ≡ third_in text.now at }

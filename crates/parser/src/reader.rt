@@ -5,7 +5,7 @@ ghost use Rattle.nodes.specs.Trees.{ordered as in_order};
 use super::table::Names;
 use nodes::node::Node;
 
-// The formulas read so far, parts before wholes, and the names met so far. There is no heap, so the nodes are an array and a count.
+/// The formulas read so far, parts before wholes, and the names met so far. There is no heap, so the nodes are an array and a count.
 #[derive(Drop)]
 pub(crate) struct Reader {
     pub(crate) nodes: [Node; 1024],
@@ -15,7 +15,7 @@ pub(crate) struct Reader {
     ghost ordered: { in_order (take count nodes) ≡ true },
 }
 
-// A place in a text of at most 1,024 bytes.
+/// A place in a text of at most 1,024 bytes.
 #[derive(Clone, Copy)]
 pub(crate) struct Cursor<'a> {
     pub(crate) text: &'a [u8],
@@ -24,14 +24,14 @@ pub(crate) struct Cursor<'a> {
     ghost inside: { at ≤ length text.now },
 }
 
-// A formula that was read: the place of its node, and where the text goes on.
+/// A formula that was read: the place of its node, and where the text goes on.
 #[derive(Clone, Copy)]
 pub(crate) struct Part {
     pub(crate) root: usize,
     pub(crate) next: usize,
 }
 
-// The places of the two formulas of a text.
+/// The places of the two formulas of a text.
 #[derive(Clone, Copy)]
 pub(crate) struct Roots {
     pub(crate) initial: usize,

@@ -12,7 +12,7 @@ use names::Name;
 use nodes::node::Connective;
 
 impl Reader {
-    // A formula on a line of its own, behind blank lines; nesting goes 32 deep.
+    /// A formula on a line of its own, behind blank lines; nesting goes 32 deep.
     fn formula(&mut self, slots: &mut [Slot<Name>], from: Cursor) -> Result<Part, TextFault>
         requires { Ready slots.old self.old from.at }
         ensures { ReadsBy 1 formula_in from.entry self.old self.new slots.new result }
@@ -24,7 +24,7 @@ impl Reader {
         Ok(Part { next, ..part })
     }
 
-    // The safety lines, joined by conjunction from the left.
+    /// The safety lines, joined by conjunction from the left.
     fn safety(&mut self, slots: &mut [Slot<Name>], from: Cursor) -> Result<Part, TextFault>
         requires { Ready slots.old self.old from.at }
         ensures { ReadsBy 1 safety_in from.entry self.old self.new slots.new result }
@@ -41,7 +41,7 @@ impl Reader {
         }
     }
 
-    // The three sections of a text.
+    /// The three sections of a text.
     pub(crate) fn sections(
         &mut self,
         text: &[u8],

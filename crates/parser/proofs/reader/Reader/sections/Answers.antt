@@ -51,8 +51,7 @@ returns-in_err-third_section c =
 pub returns : goal.returns
 returns c =
     let v = c.in_ok-initial.ensures in
-    let w = c.in_ok-safety.ensures in
-    (
+    let w = c.in_ok-safety.ensures in (
       third_read _ _ c.in_ok-at.ensures _ (begins c.args.self.now _ c.requires.ready.1) _ _ v.0
           _ c.in_ok-at-2.ensures _ _ w.0 _ c.skip_lines.ensures _ c.in_ok-third_section.ensures
           ∙ formed_later _ _ _ _ (w.1.kept _ v.1.root),

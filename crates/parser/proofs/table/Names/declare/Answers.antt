@@ -8,14 +8,6 @@ use Rattle.parser.specs.Naming.{names_of, Appended}
 use Rattle.parser.proofs.Naming.{nth_below, is_listed, not_listed, names_more, numbered_more, used_is}
 use Rattle.parser.proofs.table.Names.declare.Goals as goal
 
-pub bounds-self-number : goal.bounds-self-number
-bounds-self-number c =
-    let e = c.in-Some.ensures.model (names_of c.args.self.now) c.requires.indexed in
-    let b = nth_below (names_of c.args.self.now) c.args.name c.in-Some.number e in
-    let l = length-take c.args.self.now.count c.args.self.now.items in
-    let m = c.args.self.now.limits in
-    omega arith
-
 pub returns-in-Some : goal.returns-in-Some
 returns-in-Some c =
     let names = names_of c.args.self.now in
