@@ -8,7 +8,7 @@ use Rattle.lexer.specs.declared.token.Lexeme.{Lexeme}
 use Rattle.lexer.specs.declared.token.Operator.TheVariants as temporal
 use Rattle.lexer.specs.declared.token.Symbol.{Symbol}
 use Rattle.lexer.specs.declared.token.Symbol.TheVariants as symbol
-use Rattle.lexer.specs.Bounds.{then_ok, outside, sign_of, sign_in, bounded, number_in, bound_after, bound_in, range_in}
+use Rattle.lexer.specs.Bounds.{outside, sign_of, sign_in, bounded, number_in, bound_after, bound_in, range_in}
 use Rattle.lexer.specs.Lexer.{look_at}
 use Rattle.lexer.specs.Tokens.{is_symbol, number_of}
 use Rattle.lexer.proofs.Limits.{bound_ok, range_ok}

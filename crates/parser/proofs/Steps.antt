@@ -9,6 +9,7 @@ use Rattle.lexer.specs.declared.token.Symbol.{Symbol}
 use Rattle.lexer.specs.declared.token.Symbol.TheVariants as symbol
 use Rattle.lexer.specs.declared.token.Token.{Token}
 use Rattle.lexer.specs.Lexer.{look_at, Sees}
+use Rattle.lexer.specs.Bounds.{expected, sign_in}
 use Rattle.lexer.specs.Tokens.{is_symbol, is_line, is_end}
 use Rattle.lexer.proofs.Looks.{look_past}
 use Rattle.temporal.specs.Written.{Written}
@@ -40,8 +41,13 @@ inside_some text n m e = ap (inside text) e
 
 -- up to unary operators
 
-abbrev close_of : Bool → Written → State → Lexeme → Out
-close_of b t s x = elim b [ true ↦ good t (moved s x.next) | false ↦ misplaced x ]
+abbrev pub close_of : Written → State → Result ℕ TextFault → Out
+close_of t s (Ok next) = good t (moved s next)
+close_of t s (Err f) = stop f
+
+closes : (t : Written) (s : State) (x : Lexeme) (b : Bool) → is_symbol symbol.Close x.token ≡ b → closed t s x ≡ close_of t s (expected b x)
+closes t s x true e = ap (λ b. elim b [ true ↦ good t (moved s x.next) | false ↦ misplaced x ]) e
+closes t s x false e = ap (λ b. elim b [ true ↦ good t (moved s x.next) | false ↦ misplaced x ]) e
 
 module _ (text : List ℕ) (n : ℕ) (s : State) (x : Lexeme) (is : x ≡ look_at text s.at) where
   pub unary_is : (h : Option Head) → h ≡ head_of x.token → unary_by text (inside text n) s ≡ begun text (inside text n) x s h
@@ -80,10 +86,12 @@ module _ (text : List ℕ) (n : ℕ) (s : State) (x : Lexeme) (is : x ≡ look_a
 
     pub group_closed :
         Some head.Group ≡ head_of x.token → (t : Written) (s' : State) →
-        arrow_of text (inside text m) connective.Equivalent (moved s x.next) ≡ good t s' → (y : Lexeme) → y ≡ look_at text s'.at →
-        (b : Bool) → b ≡ is_symbol symbol.Close y.token → unary_by text (inside text n) s ≡ close_of b t s' y
-    group_closed e t s' h y i b f =
-        group_then e _ h ∙ ap (λ z. closed t s' z) (sym i) ∙ ap (λ c. close_of c t s' y) (sym f)
+        arrow_of text (inside text m) connective.Equivalent (moved s x.next) ≡ good t s' → (r : Result ℕ TextFault) →
+        r ≡ sign_in text symbol.Close s'.at → unary_by text (inside text n) s ≡ close_of t s' r
+    unfolding sign_in
+    group_closed e t s' h r i =
+        group_then e _ h ∙ closes t s' (look_at text s'.at) (is_symbol symbol.Close (look_at text s'.at).token) refl
+        ∙ ap (close_of t s') (sym i)
 
 -- operands joined from the left
 

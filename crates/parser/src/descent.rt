@@ -6,7 +6,7 @@ use super::reader::{Cursor, Part, Reader};
 use faults::TextFault;
 use grammar::head::{Head, head_of, read_prefix, symbol_of};
 use index::Slot;
-use lexer::look::look;
+use lexer::look::{expect, look};
 use lexer::token::Symbol;
 use names::Name;
 use nodes::node::{Connective, Node};
@@ -35,11 +35,7 @@ impl Reader {
                 let left = deeper(left, seen)?;
                 let at = seen.next;
                 let part = self.arrow(Connective::Equivalent, slots, Cursor { text, at }, left)?;
-                let close = look(text, part.next);
-                if !close.token.is_symbol(Symbol::Close) {
-                    return Err(close.misplaced());
-                }
-                let next = close.next;
+                let next = expect(text, part.next, |seen| seen.token.is_symbol(Symbol::Close))?;
                 Ok(Part { next, ..part })
             }
         }

@@ -1,13 +1,14 @@
-use Rattle.std.proofs.Common.{◌-◌, ◌<◌, length, Some, None, sym, refl, ap, ◌∙◌, subst, arith}
+use Rattle.std.proofs.Common.{◌≡◌, ◌-◌, ◌<◌, length, Some, None, sym, refl, ap, ◌∙◌, subst, arith, rules}
 use Rattle.std.proofs.lemmas.Bool.{lt-ltb}
 use Rattle.lexer.specs.declared.token.Symbol.TheVariants as symbol
+use Rattle.lexer.specs.Bounds.{sign_in}
 use Rattle.lexer.specs.Tokens.{is_symbol}
-use Rattle.nodes.specs.declared.node.Connective.{Connective}
+use Rattle.lexer.proofs.Limits.{On, when_ok, sign_on}
 use Rattle.grammar.specs.declared.head.Head.TheVariants as head
-use Rattle.grammar.specs.Grammar.{Out, stop, and_then, more, operand_by}
+use Rattle.grammar.specs.Grammar.{Out, stop, and_then, more}
 use Rattle.grammar.proofs.Prefixes.{prefix_ok}
 use Rattle.parser.specs.Naming.{names_of}
-use Rattle.parser.specs.Reading.{Reads, ReadsBy, operand_with}
+use Rattle.parser.specs.Reading.{Reads, operand_with}
 use Rattle.parser.proofs.Moves.{ready_on, room_behind, went_node, went_here, went_both, went_later, went_spare, went_earlier, failed, good_is}
 use Rattle.parser.proofs.Joins.{opened, unary_went, unary_good, binary_went, binary_good}
 use Rattle.parser.proofs.Steps.{unary_is, prefix_full, prefix_on, prefix_then, group_full, group_then, group_closed, chain_then}
@@ -179,11 +180,15 @@ unary-returns-in_err-part-in-Group t c =
     c.from_residual-in_err-part-in-Group.result c.from_residual-in_err-part-in-Group.ensures.1
     (group_then _ _ _ _ c.look-seen.ensures.value _ c.in_ok-left-in-Group.ensures h _ c.in_err-part-in-Group.ensures)
 
-pub unary-returns-then-not-is_symbol : goal.unary-returns-then-not-is_symbol
-unary-returns-then-not-is_symbol t c =
+pub unary-returns-in_err-next-in-Group : goal.unary-returns-in_err-next-in-Group
+unfolding sign_in
+unary-returns-in_err-next-in-Group t c =
     let h = ap Some (sym c.in-Group.is) ∙ sym c.in_ok-head.ensures.ok_part ∙ c.head_of.ensures in
-    group_closed _ _ _ _ c.look-seen.ensures.value _ c.in_ok-left-in-Group.ensures h _ _ c.in_ok-part-in-Group.ensures.0 _
-    c.look-close.ensures.value _ c.if-not-is_symbol.ensures ∙ ap stop (sym c.misplaced-then-not-is_symbol.ensures)
+    let e : c.expect.result ≡ sign_in c.args.from.text.now symbol.Close c.in_ok-part-in-Group.part.next = search rules in
+    failed 0 _ c.args.from.text.now c.args.from.at c.args.self.now c.arrow.new.self c.arrow.new.slots _
+    c.from_residual-in_err-next-in-Group.result c.from_residual-in_err-next-in-Group.ensures.1
+    (group_closed _ _ _ _ c.look-seen.ensures.value _ c.in_ok-left-in-Group.ensures h _ _ c.in_ok-part-in-Group.ensures.0 _
+    (sym c.in_err-next-in-Group.was ∙ e))
 
 pub unary-returns-in-Constant : goal.unary-returns-in-Constant
 unary-returns-in-Constant t c =
@@ -215,14 +220,18 @@ unary-returns-in_ok-part-in-Prefix t c =
       unary_went on d.1 c.push-in-Prefix.ensures,
     )
 
-pub unary-returns-else-not-is_symbol : goal.unary-returns-else-not-is_symbol
-unary-returns-else-not-is_symbol t c =
+pub unary-returns-in_ok-next-in-Group : goal.unary-returns-in_ok-next-in-Group
+unfolding sign_in
+unary-returns-in_ok-next-in-Group t c =
+    let text = c.args.from.text.now in
+    let at = c.in_ok-part-in-Group.part.next in
     let v = c.look-seen.ensures in
     let d = c.in_ok-part-in-Group.ensures in
-    let y = c.look-close.ensures in
     let h = ap Some (sym c.in-Group.is) ∙ sym c.in_ok-head.ensures.ok_part ∙ c.head_of.ensures in
-    let f = c.if-not-is_symbol.ensures in (
-      group_closed _ _ _ _ v.value _ c.in_ok-left-in-Group.ensures h _ _ d.0 _ y.value _ f,
-      went_spare 0 (omega arith) (went_later _ 0 refl (omega (arith, y.after, symbol_reads y symbol.Close f)) (y.in_text d.1.in_text)
+    let e : c.expect.result ≡ sign_in text symbol.Close at = search rules in
+    let ok = sym c.in_ok-next-in-Group.was ∙ e in
+    let on = when_ok (On text at) (sign_in text symbol.Close at) c.in_ok-next-in-Group.next (sign_on text symbol.Close at) (sym ok) in (
+      group_closed _ _ _ _ v.value _ c.in_ok-left-in-Group.ensures h _ _ d.0 _ ok,
+      went_spare 0 (omega arith) (went_later _ 0 refl (omega (arith, on.after)) (on.in_text d.1.in_text)
           (went_earlier c.args.from.at 0 (omega (arith, v.after, head_reads v _ h)) d.1)),
     )

@@ -5,7 +5,7 @@ use Rattle.names.specs.declared.Name.{Name}
 use Rattle.names.specs.Words.{name_code}
 use Rattle.grammar.specs.Numbering.{rank, environmental}
 use Rattle.parser.specs.Naming.{names_of, Appended}
-use Rattle.parser.proofs.Naming.{nth_below, is_listed, not_listed, names_more, numbered_more, used_is}
+use Rattle.parser.proofs.Naming.{is_listed, not_listed, names_more, numbered_more, used_is}
 use Rattle.parser.proofs.table.Names.declare.Goals as goal
 
 pub returns-in-Some : goal.returns-in-Some
