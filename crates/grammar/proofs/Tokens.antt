@@ -1,5 +1,5 @@
 -- What a token that is one thing is not.
-use Rattle.std.proofs.Common.{◌≡◌, ℕ, ◌<◌, ◌≤◌, true, false, List, length, Some, None, sym, refl, ap, ◌∙◌}
+use Rattle.std.proofs.Common.{◌≡◌, ℕ, ◌<◌, ◌≤◌, true, false, List, length, Some, None, sym, refl, ap, ◌∙◌, rules}
 use Rattle.std.proofs.lemmas.Bool.{false≢true, eqb-true, ne_eqb}
 use Rattle.lexer.specs.declared.token.Symbol.{Symbol}
 use Rattle.lexer.specs.declared.token.Token.{Token}
@@ -15,24 +15,10 @@ use Rattle.grammar.specs.Sections.{is_word, is_true}
 -- a symbol is neither the end nor a word nor another symbol
 
 pub symbol_not_end : (s : Symbol) (k : Token) → is_symbol s k ≡ true → is_end k ≡ false
-symbol_not_end s token.End e = absurd (false≢true e)
-symbol_not_end s token.Line e = refl
-symbol_not_end s token.Unknown e = refl
-symbol_not_end s token.Word e = refl
-symbol_not_end s (token.Constant b) e = refl
-symbol_not_end s (token.Temporal o) e = refl
-symbol_not_end s (token.Number n) e = refl
-symbol_not_end s (token.Symbol own) e = refl
+symbol_not_end s k e = search rules
 
 pub symbol_not_word : (s : Symbol) (k : Token) → is_symbol s k ≡ true → is_word k ≡ false
-symbol_not_word s token.End e = refl
-symbol_not_word s token.Line e = refl
-symbol_not_word s token.Unknown e = refl
-symbol_not_word s token.Word e = absurd (false≢true e)
-symbol_not_word s (token.Constant b) e = refl
-symbol_not_word s (token.Temporal o) e = refl
-symbol_not_word s (token.Number n) e = refl
-symbol_not_word s (token.Symbol own) e = refl
+symbol_not_word s k e = search rules
 
 pub one_symbol : (s r : Symbol) (k : Token) → (symbol_number s ≡ symbol_number r → ⊥) → is_symbol s k ≡ true → is_symbol r k ≡ false
 one_symbol s r token.End ne e = refl
@@ -47,89 +33,33 @@ one_symbol s r (token.Symbol own) ne e = ne_eqb _ _ (λ h. ne (sym (eqb-true _ _
 -- a line end is no symbol and no word, and nothing begins with it
 
 pub line_not_symbol : (s : Symbol) (k : Token) → is_line k ≡ true → is_symbol s k ≡ false
-line_not_symbol s token.End e = refl
-line_not_symbol s token.Line e = refl
-line_not_symbol s token.Unknown e = refl
-line_not_symbol s token.Word e = refl
-line_not_symbol s (token.Constant b) e = refl
-line_not_symbol s (token.Temporal o) e = refl
-line_not_symbol s (token.Number n) e = refl
-line_not_symbol s (token.Symbol own) e = absurd (false≢true e)
+line_not_symbol s k e = search rules
 
 pub line_not_word : (k : Token) → is_line k ≡ true → is_word k ≡ false
-line_not_word token.End e = refl
-line_not_word token.Line e = refl
-line_not_word token.Unknown e = refl
-line_not_word token.Word e = absurd (false≢true e)
-line_not_word (token.Constant b) e = refl
-line_not_word (token.Temporal o) e = refl
-line_not_word (token.Number n) e = refl
-line_not_word (token.Symbol own) e = refl
+line_not_word k e = search rules
 
 pub line_not_end : (k : Token) → is_line k ≡ true → is_end k ≡ false
-line_not_end token.End e = absurd (false≢true e)
-line_not_end token.Line e = refl
-line_not_end token.Unknown e = refl
-line_not_end token.Word e = refl
-line_not_end (token.Constant b) e = refl
-line_not_end (token.Temporal o) e = refl
-line_not_end (token.Number n) e = refl
-line_not_end (token.Symbol own) e = refl
+line_not_end k e = search rules
 
 pub end_not_line : (k : Token) → is_end k ≡ true → is_line k ≡ false
-end_not_line token.End e = refl
-end_not_line token.Line e = absurd (false≢true e)
-end_not_line token.Unknown e = refl
-end_not_line token.Word e = refl
-end_not_line (token.Constant b) e = refl
-end_not_line (token.Temporal o) e = refl
-end_not_line (token.Number n) e = refl
-end_not_line (token.Symbol own) e = refl
+end_not_line k e = search rules
 
 -- words, constants and what a formula begins with are no line ends
 
 pub word_not_line : (k : Token) → is_word k ≡ true → is_line k ≡ false
-word_not_line token.End e = refl
-word_not_line token.Line e = absurd (false≢true e)
-word_not_line token.Unknown e = refl
-word_not_line token.Word e = refl
-word_not_line (token.Constant b) e = refl
-word_not_line (token.Temporal o) e = refl
-word_not_line (token.Number n) e = refl
-word_not_line (token.Symbol own) e = refl
+word_not_line k e = search rules
 
 pub word_begins : (k : Token) → is_word k ≡ true → head_of k ≡ Some head.Variable
-word_begins token.End e = absurd (false≢true e)
-word_begins token.Line e = absurd (false≢true e)
-word_begins token.Unknown e = absurd (false≢true e)
-word_begins token.Word e = refl
-word_begins (token.Constant b) e = absurd (false≢true e)
-word_begins (token.Temporal o) e = absurd (false≢true e)
-word_begins (token.Number n) e = absurd (false≢true e)
-word_begins (token.Symbol own) e = absurd (false≢true e)
+word_begins k e = search rules
 
 pub true_not_line : (k : Token) → is_true k ≡ true → is_line k ≡ false
-true_not_line token.End e = refl
-true_not_line token.Line e = absurd (false≢true e)
-true_not_line token.Unknown e = refl
-true_not_line token.Word e = refl
-true_not_line (token.Constant b) e = refl
-true_not_line (token.Temporal o) e = refl
-true_not_line (token.Number n) e = refl
-true_not_line (token.Symbol own) e = refl
-
-begins_not_line : (k : Token) → (head_of k ≡ None → ⊥) → is_line k ≡ false
-begins_not_line token.End h = refl
-begins_not_line token.Line h = absurd (h refl)
-begins_not_line token.Unknown h = refl
-begins_not_line token.Word h = refl
-begins_not_line (token.Constant b) h = refl
-begins_not_line (token.Temporal o) h = refl
-begins_not_line (token.Number n) h = refl
-begins_not_line (token.Symbol own) h = refl
+true_not_line k e = search rules
 
 pub head_not_line : (k : Token) (h : Head) → head_of k ≡ Some h → is_line k ≡ false
-head_not_line k h e = begins_not_line k (λ w. cc)
+head_not_line k h e = search rules
+
+pub head_not_end : (k : Token) (h : Head) → head_of k ≡ Some h → is_end k ≡ false
+head_not_end k h e = search rules
 
 module _ (text : List ℕ) (at : ℕ) where
   -- a symbol or a line end has bytes

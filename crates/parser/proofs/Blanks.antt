@@ -11,6 +11,7 @@ use Rattle.lexer.specs.Bounds.{expected, then_ok}
 use Rattle.lexer.proofs.Limits.{On, both_on, when_ok}
 use Rattle.lexer.proofs.Looks.{look_next, look_in_text, look_forward}
 use Rattle.grammar.specs.Sections.{is_this, past_lines, blanks, word_in, line_in, header_in}
+use Rattle.grammar.proofs.Tokens.{line_not_end}
 
 -- past blank lines
 
@@ -57,9 +58,6 @@ module _ (text : List ℕ) where
   blanks_on at = past_on (length text) at
 
 -- behind a word, a line's end, a header
-
-line_not_end : (t : Token) → is_line t ≡ true → is_end t ≡ false
-line_not_end t e = search rules
 
 module _ (text : List ℕ) where
   expected_on : (b : Bool) (at : ℕ) → IfOk (expected b (look_at text at)) (On text at)

@@ -23,6 +23,7 @@ use Rattle.grammar.specs.declared.head.Unary.{Unary}
 use Rattle.grammar.specs.Grammar.{State, moved, Out, good, stop, Parser, and_then, refuse, misplaced, Inside, full, room, head_of, symbol_of}
 use Rattle.grammar.specs.Grammar.{prefix_in, prefixed, closed, begun, unary_by, more, chain_by, implication_in}
 use Rattle.grammar.specs.Grammar.{arrowed, arrow_by, operand_by, chain_of, arrow_of, inside}
+use Rattle.grammar.proofs.Tokens.{symbol_not_end, line_not_end, head_not_end}
 
 -- the nesting
 
@@ -171,36 +172,26 @@ module _ (text : List ℕ) (n : ℕ) (c : Connective) (s : State) where
 
 -- a token that is not the end has bytes
 
-symbol_not_end : (s : Symbol) (t : Token) → true ≡ is_symbol s t → is_end t ≡ true → ⊥
-symbol_not_end s t e f = search rules
-
-line_not_end : (t : Token) → true ≡ is_line t → is_end t ≡ true → ⊥
-line_not_end t e f = search rules
-
-head_not_end : (h : Head) (t : Token) → Some h ≡ head_of t → is_end t ≡ true → ⊥
-head_not_end h t e f = search rules
-
 module _ {text : List ℕ} {at : ℕ} {x : Lexeme} (v : Sees text at x) where
-  reads : (is_end x.token ≡ true → ⊥) → x.from < x.next
-  reads h = ⊎_elim (λ f. absurd (h f)) (λ lt. lt) v.more
+  reads : is_end x.token ≡ false → x.from < x.next
+  reads h = ⊎_elim (λ e. absurd cc) (λ lt. lt) v.more
 
   pub symbol_reads : (s : Symbol) → true ≡ is_symbol s x.token → x.from < x.next
-  symbol_reads s e = reads (symbol_not_end s x.token e)
+  symbol_reads s e = reads (symbol_not_end s x.token (sym e))
 
   pub head_reads : (h : Head) → Some h ≡ head_of x.token → x.from < x.next
-  head_reads h e = reads (head_not_end h x.token e)
+  head_reads h e = reads (head_not_end x.token h (sym e))
 
-  -- and stands in the text, wherever it was looked for
-  ends_inside : (is_end x.token ≡ true → ⊥) → x.next ≤ length text
-  ends_inside h =
-      ⊎_elim (λ lt. v.in_text (omega arith))
-      (λ past. absurd (h (ap (λ y. is_end y.token) v.value ∙ sym (ap (λ y. is_end y.token) (look_past text at past)))))
-      (cases_lt at (length text))
-
+  -- a line's end has bytes, and stands in the text, wherever it was looked for
   pub line_inside : true ≡ is_line x.token → (at < x.next) × (x.next ≤ length text)
   line_inside e =
-      let lt = reads (line_not_end x.token e) in
-      (omega (arith, v.after, lt), ends_inside (line_not_end x.token e))
+      let not_end = line_not_end x.token (sym e) in
+      let lt = reads not_end in
+      let inside : x.next ≤ length text =
+      ⊎_elim (λ before. v.in_text (omega arith))
+      (λ past. let is = ap (λ y. is_end y.token) v.value ∙ sym (ap (λ y. is_end y.token) (look_past text at past)) in absurd cc)
+      (cases_lt at (length text)) in
+      (omega (arith, v.after, lt), inside)
 
 -- what `ok_or` refuses
 pub none_refused : {X E : Type 0} (o : Option X) (e f : E) → Err f ≡ ok_or o e → (o ≡ None) × (f ≡ e)
