@@ -44,7 +44,7 @@ pub struct Prefixed {
     pub next: usize,
 }
 
-/// The symbol that writes a binary operator.
+/// The symbol that writes a binary operator. It is a function and no `From`, since neither type is of this crate.
 pub fn symbol_of(connective: Connective) -> Symbol
     ensures { result ≡ symbol_of connective }
 {

@@ -70,27 +70,8 @@ pub symbol_long : (t : Token) → 0 < symbol_length t
 symbol_long t = search rules
 
 -- a symbol's later bytes are not 0, as what is read past the end of a text is
-skip :
-    (b : Bool) (x y : Token) (n : ℕ) → (b ≡ true → symbol_length x ≤ n) → (b ≡ false → symbol_length y ≤ n) →
-    symbol_length (cond b x y) ≤ n
-skip b x y n = cond_both b x y (λ t. symbol_length t ≤ n)
-
 symbol_short : (a b c n : ℕ) → 1 ≤ n → (0 < b → 2 ≤ n) → (0 < c → 3 ≤ n) → symbol_length (symbol_token a b c) ≤ n
-symbol_short a b c n one two three =
-    let arrow : symbol_length (cond (eqb b 62) (token.Symbol symbol.Implies) (token.Symbol symbol.Not)) ≤ n =
-    skip (eqb b 62) _ _ n (λ e. two (omega (arith, eqb-true b 62 e))) (λ _. one) in
-    let both : symbol_length (cond (eqb b 45 && eqb c 62) (token.Symbol symbol.Equivalent) token.Unknown) ≤ n =
-    skip (eqb b 45 && eqb c 62) _ _ n (λ e. three (omega (arith, eqb-true c 62 (and_parts _ _ e).1))) (λ _. one) in
-    skip (eqb a 10) _ _ n (λ _. one) (λ _.
-    skip (eqb a 38) _ _ n (λ _. one) (λ _.
-    skip (eqb a 124) _ _ n (λ _. one) (λ _.
-    skip (eqb a 40) _ _ n (λ _. one) (λ _.
-    skip (eqb a 41) _ _ n (λ _. one) (λ _.
-    skip (eqb a 91) _ _ n (λ _. one) (λ _.
-    skip (eqb a 93) _ _ n (λ _. one) (λ _.
-    skip (eqb a 44) _ _ n (λ _. one) (λ _.
-    skip (eqb a 45) _ _ n (λ _. arrow) (λ _.
-    skip (eqb a 60) _ _ n (λ _. both) (λ _. one))))))))))
+symbol_short a b c n one two three = grind (arith, nat_tests)
 
 some_byte : (text : List ℕ) (i : ℕ) → 0 < get_or text i 0 → i < length text
 some_byte text i h = ⊎_elim (λ lt. lt) (λ past. absurd (omega (arith, get_or_past text i 0 past))) (cases_lt i (length text))
