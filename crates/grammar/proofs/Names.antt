@@ -16,7 +16,7 @@ same_name_lem x y e =
     let long = eqb-true x.length y.length p.1 in
     λ i. record { bytes = bytes i; length = long i }
 
-name_same : (x : Name) → same_name x x ≡ true
+pub name_same : (x : Name) → same_name x x ≡ true
 name_same x = and_from _ _ ((bytes_eq-Decides x.bytes x.bytes).1 refl) (eq-eqb x.length x.length refl)
 
 other_name : (x y : Name) → same_name x y ≡ false → same_name y x ≡ false

@@ -1,12 +1,11 @@
 -- Blank lines, line ends and headers.
-use Rattle.std.proofs.Common.{◌≡◌, ℕ, zero, suc, ◌-◌, ◌<◌, Bool, true, false, List, length, Ok, Err, Result, sym, refl, ap, ◌∙◌, subst, ⊎_elim, arith, rules}
+use Rattle.std.proofs.Common.{◌≡◌, ℕ, zero, suc, ◌-◌, ◌<◌, Bool, true, false, List, length, Ok, Err, Result, sym, refl, ap, ◌∙◌, subst, ⊎_elim, arith}
 use Rattle.std.specs.Result.{IfOk}
 use Rattle.std.proofs.lemmas.Bool.{cases_Bool}
 use Rattle.faults.specs.declared.TextFault.{TextFault}
 use Rattle.lexer.specs.declared.token.Lexeme.{Lexeme}
-use Rattle.lexer.specs.declared.token.Token.{Token}
 use Rattle.lexer.specs.Lexer.{look_at}
-use Rattle.lexer.specs.Tokens.{is_line, is_end}
+use Rattle.lexer.specs.Tokens.{is_line}
 use Rattle.lexer.specs.Bounds.{expected, then_ok}
 use Rattle.lexer.proofs.Limits.{On, both_on, when_ok}
 use Rattle.lexer.proofs.Looks.{look_next, look_in_text, look_forward}

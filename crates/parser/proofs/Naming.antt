@@ -1,32 +1,16 @@
 -- Names in a list: which are there, and how many of a kind stand before one.
-use Rattle.std.proofs.Common.{◌≡◌, ℕ, zero, suc, ◌+◌, ◌-◌, ◌<◌, Bool, true, false, cond, eqb, ◌≢◌, ◌⊎◌, List, [], ◌∷◌, ◌++◌, length, get_or, take, drop, set, replicate, Some, sym, refl, ap, ◌∙◌, subst, inl, inr, ⊎_elim, arith, length-take, rules}
+use Rattle.std.proofs.Common.{◌≡◌, ℕ, zero, suc, ◌+◌, ◌-◌, ◌<◌, Bool, true, false, cond, ◌≢◌, ◌⊎◌, List, [], ◌∷◌, ◌++◌, length, get_or, take, drop, set, replicate, Some, sym, refl, ap, ◌∙◌, subst, inl, inr, ⊎_elim, arith, length-take}
 use mathlib.Core.Bool.{beq}
-use Rattle.std.specs.Str.{bytes_eq}
 use Rattle.std.specs.List.{slice_get}
-use Rattle.std.proofs.lemmas.Slice.Eq.{bytes_eq-Decides}
+use Rattle.std.proofs.lemmas.Option.{slice_get_within}
 use Rattle.std.proofs.lemmas.List.{take_more_set, drop-replicate, drop-drop, drop-set-lt, get_or-set_same, get_or-set_other}
-use Rattle.std.proofs.lemmas.Bool.{and_parts, and_from, eqb-true, eq-eqb, cases_Bool, cond-true, cond-false}
+use Rattle.std.proofs.lemmas.Bool.{cases_Bool, cond-true, cond-false}
 use Rattle.index.specs.Keyed.{NotIn}
 use Rattle.names.specs.declared.Name.{Name}
 use Rattle.grammar.specs.Numbering.{same_name, environmental, same_kind, rank, listed, variable_of}
+use Rattle.grammar.proofs.Names.{same_name_lem, name_same}
 use Rattle.parser.specs.declared.table.Names.{Names}
 use Rattle.parser.specs.Naming.{names_of, of_kind, Numbered, Appended, blank_name}
-
-same_bytes : (xs ys : List ℕ) → bytes_eq xs ys ≡ true → xs ≡ ys
-same_bytes xs ys e = search (rules, bytes_eq-Decides)
-
-bytes_same : (xs : List ℕ) → bytes_eq xs xs ≡ true
-bytes_same xs = search (rules, bytes_eq-Decides)
-
-pub same_name_lem : (x y : Name) → same_name x y ≡ true → x ≡ y
-same_name_lem x y e =
-    let p = and_parts (bytes_eq x.bytes y.bytes) (eqb x.length y.length) e in
-    let b = same_bytes x.bytes y.bytes p.0 in
-    let l = eqb-true x.length y.length p.1 in
-    λ i. record { bytes = b i; length = l i }
-
-pub name_same : (x : Name) → same_name x x ≡ true
-name_same x = and_from _ _ (bytes_same x.bytes) (eq-eqb x.length x.length refl)
 
 -- where a name is at a place of the list, and where it is at none
 pub is_listed : (x : Name) (names : List Name) (i : ℕ) → slice_get names i ≡ Some x → listed x names ≡ true
@@ -88,11 +72,6 @@ nth_push [] x y (suc i) e = absurd cc
 nth_push (z ∷ zs) x y zero e = inl e
 nth_push (z ∷ zs) x y (suc i) e = ⊎_elim (λ l. inl l) (λ r. inr (ap suc r.0, r.1)) (nth_push zs x y i e)
 
-pub nth_below : (names : List Name) (y : Name) (i : ℕ) → slice_get names i ≡ Some y → i < length names
-nth_below [] y i e = absurd cc
-nth_below (z ∷ zs) y zero e = omega arith
-nth_below (z ∷ zs) y (suc i) e = omega (arith, nth_below zs y i e)
-
 module _ (n n' : Names) (x : Name) (v : ℕ) (a : Appended n x (environmental x) v n') where
   pub names_more : names_of n' ≡ names_of n ++ x ∷ []
   names_more =
@@ -111,7 +90,7 @@ module _ (n n' : Names) (x : Name) (v : ℕ) (a : Appended n x (environmental x)
         ⊎_elim
         (λ o.
         let r = rank_more y (names_of n) (x ∷ []) (is_listed y (names_of n) i o) in
-        let ne : i ≢ n.count = omega (arith, nth_below (names_of n) y i o, names_long) in (
+        let ne : i ≢ n.count = omega (arith, slice_get_within (names_of n) i y o, names_long) in (
           ap (λ vs. get_or vs i 0) a.variables ∙ get_or-set_other n.variables n.count i v 0 ne
               ∙ k.variables i y o ∙ ap (λ m. cond (environmental y) 0 16 + m) (sym r),
           omega (arith, r, k.few i y o),
