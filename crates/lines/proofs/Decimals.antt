@@ -34,18 +34,16 @@ pub decimal_usize : (n : ℕ) → n < 2 ^ 64 → length (decimal n) ≤ 20
 decimal_usize n h = length-decimal-le 20 n (omega arith) (omega arith) h
 
 -- a number below ten is its last digit: what a line shows once it is added, where it showed s
-pub push_digit : (s t : List ℕ) (n d : ℕ) → n < 10 →
-    d ≡ 48 + n % 10 → t ≡ take 64 (s ++ d ∷ []) → t ≡ take 64 (s ++ decimal n)
-push_digit s t n d h e f =
-    let g : d ≡ 48 + n = omega arith in
-    f ∙ ap (λ (b : ℕ). take 64 (s ++ b ∷ [])) g ∙ ap (λ ds. take 64 (s ++ ds)) (sym (decimal_digit n h))
+pub push_digit : (s t : List ℕ) (n : ℕ) → n < 10 → t ≡ take 64 (s ++ (48 + n % 10) ∷ []) → t ≡ take 64 (s ++ decimal n)
+push_digit s t n h e =
+    let g : 48 + n % 10 ≡ 48 + n = omega arith in
+    e ∙ ap (λ (b : ℕ). take 64 (s ++ b ∷ [])) g ∙ ap (λ ds. take 64 (s ++ ds)) (sym (decimal_digit n h))
 
 -- the digits before the last are added first, which gives m, and then the last
-pub push_last : (s m t : List ℕ) (n d : ℕ) → 10 ≤ n → n < 2 ^ 64 →
-    m ≡ take 64 (s ++ decimal (n / 10)) → d ≡ 48 + n % 10 → t ≡ take 64 (m ++ d ∷ []) → t ≡ take 64 (s ++ decimal n)
-push_last s m t n d h l a e f =
-    f ∙ ap (λ (b : ℕ). take 64 (m ++ b ∷ [])) e
-    ∙ cut_more 64 m (s ++ decimal (n / 10)) ((48 + n % 10) ∷ []) a
+pub push_last : (s m t : List ℕ) (n : ℕ) → 10 ≤ n → n < 2 ^ 64 →
+    m ≡ take 64 (s ++ decimal (n / 10)) → t ≡ take 64 (m ++ (48 + n % 10) ∷ []) → t ≡ take 64 (s ++ decimal n)
+push_last s m t n h l a e =
+    e ∙ cut_more 64 m (s ++ decimal (n / 10)) ((48 + n % 10) ∷ []) a
     ∙ ap (take 64) (append_assoc s (decimal (n / 10)) ((48 + n % 10) ∷ []))
     ∙ ap (λ ds. take 64 (s ++ ds)) (sym (decimal_step n h l))
 

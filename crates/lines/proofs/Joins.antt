@@ -1,7 +1,6 @@
 -- Pieces added one after another to a line that keeps a number of bytes: only what they are together counts.
-use Rattle.std.proofs.Common.{◌≡◌, ℕ, zero, suc, ◌-◌, ◌<◌, ◌≤◌, min, List, [], ◌∷◌, ◌++◌, length, get_or, take, Some, None, refl, ap, ◌∙◌, arith}
-use Rattle.std.proofs.lemmas.List.{length-take-le}
-use Rattle.std.specs.List.{slice_get}
+use Rattle.std.proofs.Common.{◌≡◌, ℕ, zero, suc, ◌+◌, ◌-◌, ◌≤◌, min, List, [], ◌∷◌, ◌++◌, length, take, drop, replicate, sym, refl, ap, ◌∙◌, arith}
+use Rattle.std.proofs.lemmas.List.{length-take-le, drop-drop, drop-replicate}
 
 -- what was cut off before is cut off after too
 pub cut_join : {X : Type 0} (n : ℕ) (xs ys : List X) → take n (take n xs ++ ys) ≡ take n (xs ++ ys)
@@ -39,17 +38,7 @@ written n k xs ys h l =
     let f : take (min (length ys) (n - k)) ys ≡ take (n - k) ys = cut_count (n - k) ys in
     cc
 
--- what stands at a place of the first n
-pub front_at : {X : Type 0} (xs : List X) (n i : ℕ) (d : X) → i < n → n ≤ length xs → Some (get_or xs i d) ≡ slice_get (take n xs) i
-front_at [] zero i d h l = absurd (omega arith)
-front_at [] (suc n) i d h l = absurd (omega arith)
-front_at (x ∷ xs) zero i d h l = absurd (omega arith)
-front_at (x ∷ xs) (suc n) zero d h l = refl
-front_at (x ∷ xs) (suc n) (suc i) d h l = front_at xs n i d (omega arith) (omega arith)
-
--- and past them
-pub front_past : {X : Type 0} (xs : List X) (n i : ℕ) → n ≤ i → None ≡ slice_get (take n xs) i
-front_past xs zero i h = refl
-front_past [] (suc n) i h = refl
-front_past (x ∷ xs) (suc n) zero h = absurd (omega arith)
-front_past (x ∷ xs) (suc n) (suc i) h = front_past xs n i (omega arith)
+-- where all is 0 from place k on, all is 0 from a later place on
+pub still_zero : (k n : ℕ) (xs : List ℕ) → drop k xs ≡ replicate (64 - k) 0 → drop (k + n) xs ≡ replicate (64 - (k + n)) 0
+still_zero k n xs h =
+    sym (drop-drop n k xs) ∙ ap (drop n) h ∙ drop-replicate n (64 - k) 0 ∙ ap (λ (m : ℕ). replicate m 0) (omega arith)
