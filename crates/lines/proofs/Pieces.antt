@@ -2,7 +2,7 @@
 -- ensures, and `made_whole` ends them: a line of text and two numbers `i` and `j` of 16 bits is
 --   made_whole (made_u16 j h₄ (made_bytes (codes ",") (made_u16 i h₂ (made_none e₁) e₂) e₃) e₄) (omega arith)
 -- where the h are the bounds of the numbers and the e what the calls ensure, in their order.
-use Rattle.std.proofs.Common.{◌≡◌, ℕ, ◌+◌, ◌^◌, ◌<◌, ◌≤◌, List, [], ◌++◌, length, take, decimal, ap, ◌∙◌, arith, length-append}
+use Rattle.std.proofs.Common.{◌≡◌, ℕ, ◌+◌, ◌^◌, ◌<◌, ◌≤◌, List, [], ◌++◌, length, take, decimal, sym, ap, ◌∙◌, arith, length-append}
 use Rattle.std.proofs.lemmas.List.{take_all}
 use Rattle.lines.proofs.Decimals.{decimal_u8, decimal_u16, decimal_usize}
 use Rattle.lines.proofs.Joins.{cut_more}
@@ -15,6 +15,12 @@ pub record Made (s xs : List ℕ) (n : ℕ) : Type 0 where
 -- nothing yet
 pub made_none : {s : List ℕ} → s ≡ [] → Made s [] 0
 made_none e = record { front = e; short = omega arith }
+
+-- a line that is known to show xs, of which there are at most n
+pub made_known : {s xs : List ℕ} {n : ℕ} → s ≡ xs → length s ≤ n → n ≤ 64 → Made s xs n
+made_known {s = s} {xs = xs} e h l =
+    let f = ap length e in
+    record { front = e ∙ sym (take_all 64 xs (omega arith)); short = omega arith }
 
 -- a piece of at most k bytes
 pub made_piece : {s t xs : List ℕ} {n : ℕ} (k : ℕ) (ys : List ℕ) → length ys ≤ k →
