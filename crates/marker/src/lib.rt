@@ -7,7 +7,7 @@ ghost use Rattle.rules.specs.Shown.{view};
 ghost use Rattle.records.specs.Raw.{model};
 ghost use Rattle.marking.specs.Checks.{checks};
 ghost use Rattle.marking.specs.Verdicts.{verdict_named};
-ghost use Rattle.marker.specs.Marks.{accepted_as, marks_card, marks_file, marks_text};
+ghost use Rattle.marker.specs.Marks.{accepted_as, marked, marks_card, marks_file, marks_text};
 
 use card::file::FileSource;
 use card::source::CardSource;
@@ -16,7 +16,7 @@ use index::Slot;
 use marking::check::check;
 use marking::verdict::{Marked, Verdict};
 use names::Name;
-use outcome::{Outcome, of_card_fault, of_text_fault};
+use outcome::{Accepted, Outcome};
 use rested::key::FormulaKey;
 use rules::read::read;
 use rules::specification::Specification;
@@ -28,16 +28,16 @@ fn small(count: usize) -> u16
     count.min(65_535) as u16
 }
 
-/// The outcome of an accepted card with so many nodes and moves.
-fn accepted(marked: Marked, nodes: usize, moves: usize) -> Outcome
+/// An accepted card with so many nodes and moves.
+fn accepted(marked: Marked, nodes: usize, moves: usize) -> Accepted
     ensures { result ≡ accepted_as (verdict_named marked.verdict) (min marked.depth 65535) (min nodes 65535) (min moves 65535) }
 {
     match marked.verdict {
-        Verdict::Realizable => Outcome::Realizable {
+        Verdict::Realizable => Accepted::Realizable {
             nodes: small(nodes),
             moves: small(moves),
         },
-        Verdict::Unrealizable => Outcome::Unrealizable {
+        Verdict::Unrealizable => Accepted::Unrealizable {
             nodes: small(nodes),
             moves: small(moves),
             depth: small(marked.depth),
@@ -51,12 +51,10 @@ pub fn mark_card<S: CardSource>(
     source: &S,
     records: &mut [Slot<FormulaKey>],
 ) -> Outcome
-    ensures { result ≡ marks_card (length records.old) (game_of (view specification.now)) (S.card source.now) }
+    ensures { marked result ≡ marks_card (length records.old) (game_of (view specification.now)) (S.card source.now) }
 {
-    match check(specification, source, records) {
-        Ok(marked) => accepted(marked, source.node_count(), source.move_count()),
-        Err(fault) => of_card_fault(fault),
-    }
+    let marked = check(specification, source, records)?;
+    Ok(accepted(marked, source.node_count(), source.move_count()))
 }
 
 /// Marks the card in the bytes of a card file.
@@ -65,12 +63,10 @@ pub fn mark_file(
     bytes: &[u8],
     records: &mut [Slot<FormulaKey>],
 ) -> Outcome
-    ensures { result ≡ marks_file (length records.old) (game_of (view specification.now)) bytes.now }
+    ensures { marked result ≡ marks_file (length records.old) (game_of (view specification.now)) bytes.now }
 {
-    match FileSource::open(bytes) {
-        Ok(source) => mark_card(specification, &source, records),
-        Err(fault) => of_card_fault(fault),
-    }
+    let source = FileSource::open(bytes)?;
+    mark_card(specification, &source, records)
 }
 
 /// Reads a rules text, which is judged first, and marks the card in the bytes of a card file. The three arrays of slots, at least 2,048 each,
@@ -82,10 +78,8 @@ pub fn mark(
     formulas: &mut [Slot<Formula>],
     records: &mut [Slot<FormulaKey>],
 ) -> Outcome
-    ensures { result ≡ marks_text (length names.old) (length formulas.old) (length records.old) text.now bytes.now }
+    ensures { marked result ≡ marks_text (length names.old) (length formulas.old) (length records.old) text.now bytes.now }
 {
-    match read(text, names, formulas) {
-        Ok(specification) => mark_file(&specification, bytes, records),
-        Err(fault) => of_text_fault(fault),
-    }
+    let specification = read(text, names, formulas)?;
+    mark_file(&specification, bytes, records)
 }
