@@ -1,28 +1,25 @@
 -- Numbered lines one after another, by place.
 use Rattle.std.proofs.Common.{◌≡◌, ℕ, zero, suc, ◌+◌, ◌-◌, ◌<◌, ◌≤◌, List, [], ◌∷◌, ◌++◌, length, Some, None, Option, sym, refl, ap, ◌∙◌, arith, length-append}
 use Rattle.std.specs.List.{slice_get}
+use Rattle.std.specs.Option.{IsSomeAnd, MatchOption, option_map}
 use Rattle.grammar.specs.Numbering.{environment_names, system_names}
 use Rattle.rules.specs.Read.{View}
 use Rattle.explanation.specs.Explanation.{numbered, environment_line, system_line, formula_line}
 use Rattle.explanation.specs.Explanation.{environment_lines, system_lines, formula_lines, root_lines, specification_lines}
 
-abbrev pub line_of : {A : Type 0} → (A → List ℕ) → Option A → Option (List ℕ)
-line_of line None = None
-line_of line (Some x) = Some (line x)
-
 from_number : {A : Type 0} (line : ℕ → A → List ℕ) (i : ℕ) (xs : List A) (n : ℕ)
-    → slice_get (numbered line i xs) n ≡ line_of (line (i + n)) (slice_get xs n)
+    → slice_get (numbered line i xs) n ≡ option_map (line (i + n)) (slice_get xs n)
 from_number line i [] n = refl
 from_number line i (x ∷ xs) zero = let e : i ≡ i + 0 = omega arith in ap (λ j. Some (line j x)) e
 from_number line i (x ∷ xs) (suc n) =
     let e : (i + 1) + n ≡ i + suc n = omega arith in
-    from_number line (i + 1) xs n ∙ ap (λ j. line_of (line j) (slice_get xs n)) e
+    from_number line (i + 1) xs n ∙ ap (λ j. option_map (line j) (slice_get xs n)) e
 
 -- the line at a place
-pub numbered_at : {A : Type 0} (line : ℕ → A → List ℕ) (xs : List A) (n : ℕ) → slice_get (numbered line 0 xs) n ≡ line_of (line n) (slice_get xs n)
+pub numbered_at : {A : Type 0} (line : ℕ → A → List ℕ) (xs : List A) (n : ℕ) → slice_get (numbered line 0 xs) n ≡ option_map (line n) (slice_get xs n)
 numbered_at line xs n =
     let e : 0 + n ≡ n = omega arith in
-    from_number line 0 xs n ∙ ap (λ j. line_of (line j) (slice_get xs n)) e
+    from_number line 0 xs n ∙ ap (λ j. option_map (line j) (slice_get xs n)) e
 
 pub numbered_length : {A : Type 0} (line : ℕ → A → List ℕ) (i : ℕ) (xs : List A) → length (numbered line i xs) ≡ length xs
 numbered_length line i [] = refl
@@ -41,13 +38,16 @@ nth_back (x ∷ xs) ys (suc n) h =
     let e : n - length xs ≡ suc n - suc (length xs) = omega arith in
     nth_back xs ys n (omega arith) ∙ ap (slice_get ys) e
 
--- what a list has at a place, as its line
-module _ {A : Type 0} (line : ℕ → A → List ℕ) (xs : List A) (n : ℕ) where
-  pub numbered_some : (x : A) (l : List ℕ) → Some x ≡ slice_get xs n → l ≡ line n x → Some l ≡ slice_get (numbered line 0 xs) n
-  numbered_some x l e h = ap (λ t. Some t) h ∙ ap (line_of (line n)) e ∙ sym (numbered_at line xs n)
-
-  pub numbered_none : None ≡ slice_get xs n → None ≡ slice_get (numbered line 0 xs) n
-  numbered_none e = ap (line_of (line n)) e ∙ sym (numbered_at line xs n)
+-- what a list has at a place, mapped to its line by a closure whose calls give the line
+pub numbered_mapped : {A : Type 0} {P : A → List ℕ → Type 0} (line : ℕ → A → List ℕ) (xs : List A) (n : ℕ) (o : Option A) (r : Option (List ℕ))
+    → o ≡ slice_get xs n → ((x : A) (l : List ℕ) → P x l → l ≡ line n x) → MatchOption o (r ≡ None) (λ x. IsSomeAnd r (P x))
+    → r ≡ slice_get (numbered line 0 xs) n
+numbered_mapped {A} {P} line xs n o r e h m = of_map o r m ∙ ap (option_map (line n)) e ∙ sym (numbered_at line xs n)
+  where
+    of_map : (o : Option A) (r : Option (List ℕ)) → MatchOption o (r ≡ None) (λ x. IsSomeAnd r (P x)) → r ≡ option_map (line n) o
+    of_map None r m = m
+    of_map (Some x) None m = absurd m
+    of_map (Some x) (Some l) m = ap (λ t. Some t) (h x l m)
 
 -- four lists in a row, each after those before it
 module _ {A : Type 0} (ws xs ys zs : List A) (r : Option A) (n a : ℕ) (p : length ws ≡ a) where

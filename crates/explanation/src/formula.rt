@@ -1,10 +1,9 @@
 //! A formula as text.
-ghost use Rattle.std.specs.Prelude.{◌≡◌, ◌≤◌, ◌++◌, length, codes, decimal};
-ghost use Rattle.lines.specs.Shown.{shown};
+ghost use Rattle.std.specs.Prelude.{◌≡◌, ◌≤◌, ◌++◌, length};
 ghost use Rattle.rules.specs.Shown.{view};
-ghost use Rattle.explanation.specs.Explanation.{formula_text, variable_at, variable_text, word_in};
+ghost use Rattle.explanation.specs.Explanation.{formula_text, variable_at, variable_text};
 
-use super::pieces::{of_bound, of_bounds, of_pair, of_text, of_texts};
+use super::pieces::{of_bounds, of_pair};
 use formulas::Formula;
 use lines::Line;
 use names::Name;
@@ -21,58 +20,36 @@ fn variable(specification: &Specification, v: u8) -> Option<Name>
     }
 }
 
-/// The word of a name, where there is one.
-fn word(name: &Option<Name>) -> &[u8]
-    ensures word { result.now ≡ word_in name.now }
-    ensures short { length result.now ≤ 15 }
+/// A variable's word after a sign; every variable of a specification has one.
+fn literal(specification: &Specification, sign: &[u8], v: u8) -> Line
+    requires { length sign.now ≤ 5 }
+    ensures text { result ≡ sign.now ++ variable_text (view specification.now).names v }
+    ensures short { length result ≤ 20 }
 {
-    match name {
-        Some(name) => name.word(),
-        None => b"",
+    let signed = Line::new().with_bytes(sign);
+    match variable(specification, v) {
+        Some(name) => signed.with_bytes(name.word()),
+        None => signed,
     }
-}
-
-fn variable_text(specification: &Specification, v: u8) -> Line
-    ensures text { shown result ≡ variable_text (view specification.now).names v }
-    ensures short { length (shown result) ≤ 20 }
-{
-    of_text(word(&variable(specification, v)))
-}
-
-fn negated_text(specification: &Specification, v: u8) -> Line
-    ensures text { shown result ≡ codes "-" ++ variable_text (view specification.now).names v }
-    ensures short { length (shown result) ≤ 20 }
-{
-    of_texts(b"-", word(&variable(specification, v)))
-}
-
-fn and_text(a: u16, b: u16) -> Line
-    ensures text { shown result ≡ decimal a ++ codes " & " ++ decimal b }
-    ensures short { length (shown result) ≤ 20 }
-{
-    of_pair(a, b" & ", b)
-}
-
-fn or_text(a: u16, b: u16) -> Line
-    ensures text { shown result ≡ decimal a ++ codes " | " ++ decimal b }
-    ensures short { length (shown result) ≤ 20 }
-{
-    of_pair(a, b" | ", b)
 }
 
 /// A formula, with its parts by their numbers and its variable by name.
 pub(crate) fn formula_text(specification: &Specification, formula: Formula) -> Line
-    ensures text { shown result ≡ formula_text (view specification.now).names formula }
-    ensures short { length (shown result) ≤ 20 }
+    ensures text { result ≡ formula_text (view specification.now).names formula }
+    ensures short { length result ≤ 20 }
 {
     match formula {
-        Formula::False => of_text(b"False"),
-        Formula::True => of_text(b"True"),
-        Formula::Variable(v) => variable_text(specification, v),
-        Formula::Negated(v) => negated_text(specification, v),
-        Formula::And(a, b) => and_text(a, b),
-        Formula::Or(a, b) => or_text(a, b),
-        Formula::Next(n, a) => of_bound(b"X[", n, a),
+        Formula::False => Line::new().with_bytes(b"False"),
+        Formula::True => Line::new().with_bytes(b"True"),
+        Formula::Variable(v) => literal(specification, b"", v),
+        Formula::Negated(v) => literal(specification, b"-", v),
+        Formula::And(a, b) => of_pair(a, b" & ", b),
+        Formula::Or(a, b) => of_pair(a, b" | ", b),
+        Formula::Next(n, a) => Line::new()
+            .with_bytes(b"X[")
+            .with_number(n as usize)
+            .with_bytes(b"] ")
+            .with_number(a as usize),
         Formula::Always(n, m, a) => of_bounds(b"G[", n, m, a),
         Formula::Eventually(n, m, a) => of_bounds(b"F[", n, m, a),
     }

@@ -1,8 +1,10 @@
-use Rattle.explanation.proofs.Sections.{numbered_some, numbered_none}
+use Rattle.std.proofs.Common.{rules}
+use Rattle.rules.specs.Shown.{view}
+use Rattle.explanation.specs.Explanation.{formula_line}
+use Rattle.explanation.proofs.Sections.{numbered_mapped}
 use Rattle.explanation.proofs.lists.formula_at.Goals as goal
 
-pub returns-in-Some : goal.returns-in-Some
-returns-in-Some c = numbered_some _ _ c.args.k c.in-Some.formula _ c.in-Some.ensures c.formula_line.ensures
-
-pub returns-in-None : goal.returns-in-None
-returns-in-None c = numbered_none _ _ c.args.k c.in-None.ensures
+pub returns : goal.returns
+returns c =
+    numbered_mapped (formula_line (view c.args.specification.now).names) _ c.args.k _ c.map.result c.formula.ensures (λ x l p. search rules)
+    c.map.ensures.cases

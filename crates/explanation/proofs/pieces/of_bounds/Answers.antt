@@ -5,11 +5,11 @@ use Rattle.explanation.proofs.pieces.of_bounds.Goals as goal
 
 pub returns : goal.returns
 returns c =
-    let a = made_none c.new-line.ensures in
-    let b = made_piece 2 c.args.operator.now c.requires a c.push_bytes.ensures in
-    let d = made_u16 c.args.n (omega arith) b c.push_number.ensures.line in
-    let e = made_bytes (codes ",") d c.push_bytes-2.ensures in
-    let f = made_u16 c.args.m (omega arith) e c.push_number-2.ensures.line in
-    let g = made_bytes (codes "] ") f c.push_bytes-3.ensures in
-    let h = made_u16 c.args.part (omega arith) g c.push_number-3.ensures.line in
+    let a = made_none c.new.ensures in
+    let b = made_piece 2 c.args.operator.now c.requires a c.with_bytes.ensures in
+    let d = made_u16 c.args.n (omega arith) b c.with_number.ensures in
+    let e = made_bytes (codes ",") d c.with_bytes-2.ensures in
+    let f = made_u16 c.args.m (omega arith) e c.with_number-2.ensures in
+    let g = made_bytes (codes "] ") f c.with_bytes-3.ensures in
+    let h = made_u16 c.args.part (omega arith) g c.with_number-3.ensures in
     record { text = made_whole h (omega arith); short = made_short h (omega arith) }

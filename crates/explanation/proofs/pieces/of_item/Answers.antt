@@ -4,9 +4,9 @@ use Rattle.explanation.proofs.pieces.of_item.Goals as goal
 
 pub returns : goal.returns
 returns c =
-    let a = made_none c.new-line.ensures in
-    let b = made_piece 12 c.args.kind.now c.requires.0 a c.push_bytes.ensures in
-    let d = made_usize c.args.number (omega arith) b c.push_number.ensures.line in
-    let e = made_bytes (codes " ") d c.push_bytes-2.ensures in
-    let f = made_piece 20 c.args.text.now c.requires.1 e c.push_bytes-3.ensures in
+    let a = made_none c.new.ensures in
+    let b = made_piece 12 c.args.kind.now c.requires.0 a c.with_bytes.ensures in
+    let d = made_usize c.args.number (omega arith) b c.with_number.ensures in
+    let e = made_bytes (codes " ") d c.with_bytes-2.ensures in
+    let f = made_piece 20 c.args.text.now c.requires.1 e c.with_bytes-3.ensures in
     made_whole f (omega arith)

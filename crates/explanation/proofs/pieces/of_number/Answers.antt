@@ -4,6 +4,6 @@ use Rattle.explanation.proofs.pieces.of_number.Goals as goal
 
 pub returns : goal.returns
 returns c =
-    let a = made_none c.new-line.ensures in
-    let b = made_piece 12 c.args.kind.now c.requires a c.push_bytes.ensures in
-    made_whole (made_usize c.args.number (omega arith) b c.push_number.ensures.line) (omega arith)
+    let a = made_none c.new.ensures in
+    let b = made_piece 12 c.args.kind.now c.requires a c.with_bytes.ensures in
+    made_whole (made_usize c.args.number (omega arith) b c.with_number.ensures) (omega arith)

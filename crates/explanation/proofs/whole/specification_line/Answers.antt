@@ -1,29 +1,47 @@
+use Rattle.std.proofs.Common.{◌≡◌, ◌-◌, ap, ◌∙◌, arith}
+use Rattle.std.specs.List.{slice_get}
 use Rattle.rules.specs.Shown.{view}
-use Rattle.explanation.specs.Shown.{shown_line}
+use Rattle.explanation.specs.Explanation.{formula_lines, root_lines, system_lines}
 use Rattle.explanation.proofs.Sections.{at_environment, at_system, at_formula, at_root_lem}
 use Rattle.explanation.proofs.whole.specification_line.Goals as goal
 
-pub returns-then-n-environment : goal.returns-then-n-environment
-returns-then-n-environment c =
-    at_environment (view c.args.specification.now) (shown_line c.environment_at.result) c.args.n
-    c.environment_count-environment.result c.environment_count-environment.ensures c.if-n-environment.true c.environment_at.ensures
+pub returns-in_default : goal.returns-in_default
+returns-in_default c =
+    at_environment (view c.args.specification.now) _ c.args.n c.environment_count.result c.environment_count.ensures
+    (omega (arith, c.in_default.ensures)) c.environment_at.ensures
 
-pub returns-then-n-system : goal.returns-then-n-system
-returns-then-n-system c =
-    at_system (view c.args.specification.now) (shown_line c.system_at.result) c.args.n
-    c.environment_count-environment.result c.environment_count-environment.ensures
-    c.system_count-system.result c.system_count-system.ensures c.if-n-environment.false c.if-n-system.true c.system_at.ensures
+pub returns-in_default-checked_sub : goal.returns-in_default-checked_sub
+returns-in_default-checked_sub c =
+    let v = view c.args.specification.now in
+    let n = c.args.n in
+    let a = c.environment_count.result in
+    let after : c.in-Some.after_environment ≡ n - a = c.in-Some.ensures.1 in
+    at_system v _ n a c.environment_count.ensures c.system_count.result c.system_count.ensures c.in-Some.ensures.0
+    (omega (arith, after, c.in_default-checked_sub.ensures))
+    (c.system_at.ensures ∙ ap (slice_get (system_lines v)) after)
 
-pub returns-then-n-formulas : goal.returns-then-n-formulas
-returns-then-n-formulas c =
-    at_formula (view c.args.specification.now) (shown_line c.formula_at.result) c.args.n
-    c.environment_count-environment.result c.environment_count-environment.ensures
-    c.system_count-system.result c.system_count-system.ensures c.if-n-environment.false
-    c.formula_count-formulas.result c.formula_count-formulas.ensures c.if-n-system.false c.if-n-formulas.true c.formula_at.ensures
+pub returns-in_default-checked_sub-2 : goal.returns-in_default-checked_sub-2
+returns-in_default-checked_sub-2 c =
+    let v = view c.args.specification.now in
+    let n = c.args.n in
+    let a = c.environment_count.result in
+    let b = c.system_count.result in
+    let s = c.in-Some-checked_sub.ensures in
+    let after : c.in-Some-checked_sub.after_system ≡ n - a - b = omega (arith, c.in-Some.ensures.1, s.1) in
+    at_formula v _ n a c.environment_count.ensures b c.system_count.ensures c.in-Some.ensures.0 c.formula_count.result c.formula_count.ensures
+    (omega (arith, c.in-Some.ensures.1, s.0)) (omega (arith, after, c.in_default-checked_sub-2.ensures))
+    (c.formula_at.ensures ∙ ap (slice_get (formula_lines v)) after)
 
 pub returns : goal.returns
 returns c =
-    at_root_lem (view c.args.specification.now) (shown_line c.root_at.result) c.args.n
-    c.environment_count-environment.result c.environment_count-environment.ensures
-    c.system_count-system.result c.system_count-system.ensures c.if-n-environment.false
-    c.formula_count-formulas.result c.formula_count-formulas.ensures c.if-n-system.false c.if-n-formulas.false c.root_at.ensures
+    let v = view c.args.specification.now in
+    let n = c.args.n in
+    let a = c.environment_count.result in
+    let b = c.system_count.result in
+    let d = c.formula_count.result in
+    let s = c.in-Some-checked_sub.ensures in
+    let t = c.in-Some-checked_sub-2.ensures in
+    let after : c.in-Some-checked_sub-2.after_formulas ≡ n - a - b - d = omega (arith, c.in-Some.ensures.1, s.1, t.1) in
+    at_root_lem v _ n a c.environment_count.ensures b c.system_count.ensures c.in-Some.ensures.0 d c.formula_count.ensures
+    (omega (arith, c.in-Some.ensures.1, s.0)) (omega (arith, c.in-Some.ensures.1, s.1, t.0))
+    (c.root_at.ensures ∙ ap (slice_get (root_lines v)) after)
