@@ -1,5 +1,5 @@
 -- What reading answers, from what parsing and normal form answer.
-use Rattle.std.proofs.Common.{◌≡◌, ℕ, ◌<◌, ◌≤◌, Bool, true, false, cond, ◌||◌, ltb, List, length, take, IsErrAnd, Some, Ok, Err, Result, sym, refl, ap, ◌∙◌, subst, arith}
+use Rattle.std.proofs.Common.{◌≡◌, ℕ, ◌<◌, ◌≤◌, Bool, true, false, cond, ◌||◌, ltb, List, length, take, IsErrAnd, MatchResult, Some, Ok, Err, Result, sym, refl, ap, ◌∙◌, subst, arith}
 use Rattle.std.specs.List.{slice_get}
 use Rattle.std.proofs.lemmas.Bool.{lt-ltb, le-ltb, ltb-true, ltb-false}
 use Rattle.faults.specs.declared.Buffer.TheVariants as buffer
@@ -201,6 +201,19 @@ pub handed_on : (n m : ℕ) (text : List ℕ) (f : Fault) (r : Result Specificat
     → Promised n m text (view_result r)
 handed_on n m text f (Ok s) h p = absurd h
 handed_on n m text f (Err y) h p = subst (λ (x : Fault). Promised n m text (Err x)) (sym h) p
+
+-- what was before map_err: the same value, or an error that the closure made this one of
+pub ok_before : {T E D : Type 0} (P : E → D → Type 0) (r : Result T E) (m : Result T D) (x : T)
+    → MatchResult r (λ y. m ≡ Ok y) (λ e. IsErrAnd m (P e)) → m ≡ Ok x → r ≡ Ok x
+ok_before P (Ok y) m x h e = cc
+ok_before P (Err e) (Ok y) x h q = absurd h
+ok_before P (Err e) (Err d) x h q = cc
+
+pub err_before : {T E D : Type 0} (P : E → D → Type 0) (r : Result T E) (m : Result T D) (d f : D) → MatchResult r (λ y. m ≡ Ok y) (λ e. IsErrAnd m (P e))
+    → ((e : E) (x : D) → P e x → x ≡ f) → m ≡ Err d → (e : E) × (r ≡ Err e) × (d ≡ f)
+err_before P (Ok y) m d f h k q = absurd cc
+err_before P (Err e) (Ok y) d f h k q = absurd h
+err_before P (Err e) (Err x) d f h k q = let s : d ≡ x = cc in (e, refl, s ∙ k e x h)
 
 -- with slots enough, the table is refused for its length alone
 pub many_parts : (s : Syntax) (n : ℕ) (e : Refusal) → 2048 ≤ n → Normalized s n (Err e) → 256 < length (parts_in s)

@@ -1,4 +1,4 @@
-// Reads a rules text into a specification.
+//! Reads a rules text into a specification.
 #![tactic(auto)]
 
 pub mod read;

@@ -1,6 +1,5 @@
-// Reading a rules text.
-ghost use Rattle.std.specs.Prelude.{◌≡◌, ◌≤◌, ◌||◌, length, nat_lt};
-ghost use Rattle.faults.specs.declared.Reason.TheVariants as reason;
+//! Reading a rules text.
+ghost use Rattle.std.specs.Prelude.{◌≡◌, ◌≤◌, length};
 ghost use Rattle.rules.specs.Laws.{KeepsMeaning, ReadsAsDerived, StatesGame};
 ghost use Rattle.rules.specs.Read.{reads_with};
 ghost use Rattle.rules.specs.Shown.{view_result};
@@ -13,25 +12,10 @@ use names::Name;
 use normal::normalize;
 use parser::parse;
 
-// The number of the formula True, which the third part is.
+/// The number of the formula True, which the third part is.
 const TRUE: u16 = 1;
 
-fn too_few(slots: usize) -> bool
-    ensures { result ≡ nat_lt slots 2048 }
-{
-    slots < 2048
-}
-
-fn too_many_formulas(end: usize) -> TextFault
-    ensures { result ≡ record { reason = reason.Formulas; place = end } }
-{
-    TextFault {
-        reason: Reason::Formulas,
-        place: end,
-    }
-}
-
-// Reads a text. The two arrays of slots, at least 2,048 each, are memory for an index of its names and for one of its formulas.
+/// Reads a text. The two arrays of slots, at least 2,048 each, are memory for an index of its names and for one of its formulas.
 pub fn read(
     text: &[u8],
     names: &mut [Slot<Name>],
@@ -42,16 +26,17 @@ pub fn read(
     ensures meaning { KeepsMeaning text.now (view_result result) }
     ensures game { StatesGame (view_result result) }
 {
-    if too_few(formulas.len()) {
+    if formulas.len() < 2048 {
         return Err(Fault::Short(Buffer::Index));
     }
     let parsed = parse(text, names)?;
-    match normalize(&parsed.syntax, formulas) {
-        Ok(table) => Ok(Specification {
-            names: parsed.names,
-            formulas: table,
-            third: TRUE,
-        }),
-        Err(_) => Err(Fault::Text(too_many_formulas(text.len()))),
-    }
+    let formulas = normalize(&parsed.syntax, formulas).map_err(|_| TextFault {
+        reason: Reason::Formulas,
+        place: text.len(),
+    })?;
+    Ok(Specification {
+        names: parsed.names,
+        formulas,
+        third: TRUE,
+    })
 }
