@@ -17,7 +17,8 @@ use Rattle.formulas.proofs.Trees.{tree_at_lem, tree_absent, trees_push, trees_le
 use Rattle.index.specs.declared.Slot.{Slot}
 use Rattle.index.specs.Keyed.{Indexed, NotIn}
 use Rattle.normal.specs.declared.builder.Builder.{Builder}
-use Rattle.normal.specs.declared.builder.Operand.{Operand}
+use Rattle.normal.specs.declared.operand.Operand.{Operand}
+use Rattle.normal.specs.Operands.{place_of}
 use Rattle.normal.specs.Building.{entries_of, listed, Sound, recalled, Added, Remembers}
 
 pub nth_in : {X : Type 0} (xs : List X) (i : ℕ) (x : X) → slice_get xs i ≡ Some x → x ∈ xs
@@ -78,7 +79,7 @@ module _ (slots : List (Slot Formula)) (b : Builder) (s : Sound slots b) where
           omega (arith, l, length_push (listed b) (grow (listed b) e), listed_length, h)
 
       abbrev pub after : Builder
-      after = record { entries = set b.entries b.count e; count = b.count + 1; positive = b.positive; negative = b.negative }
+      after = record { entries = set b.entries b.count e; count = b.count + 1; numbers = b.numbers }
 
       module _ (low : b.count < 256) where
         entries_after : entries_of after ≡ entries_of b ++ e ∷ []
@@ -135,32 +136,23 @@ set_some xs at k i j h =
         (λ (l : length xs ≤ at). inr (ap (λ (ys : List (Option ℕ)). get_or ys i None) (sym (set_past xs at (Some k) l)) ∙ h))
         (cases_lt at (length xs))
 
--- with k remembered for node i
-abbrev positively : Builder → ℕ → ℕ → Builder
-positively b i k =
-    record { entries = b.entries; count = b.count; positive = set b.positive i (Some k); negative = b.negative }
+-- operands at one place are the same
+same_place : (s t : Bool) (i j : ℕ) → place_of s i ≡ place_of t j → (s ≡ t) × (i ≡ j)
+same_place true true i j e = (refl, omega arith)
+same_place true false i j e = absurd (omega arith)
+same_place false true i j e = absurd (omega arith)
+same_place false false i j e = (refl, omega arith)
 
--- with k remembered for the negation of node i
-abbrev negatively : Builder → ℕ → ℕ → Builder
-negatively b i k =
-    record { entries = b.entries; count = b.count; positive = b.positive; negative = set b.negative i (Some k) }
+-- with k at a place of the memory
+abbrev pub noted : Builder → ℕ → ℕ → Builder
+noted b at k = record { entries = b.entries; count = b.count; numbers = set b.numbers at (Some k) }
 
-pub remembers_positive : (b : Builder) (o : Operand) (k : ℕ) → o.sign ≡ true
-    → Remembers b o k (positively b o.node k)
-remembers_positive b o k e = record { kept = refl; memory = go }
+pub remembers : (b : Builder) (o : Operand) (k at : ℕ) → at ≡ place_of o.sign o.node → Remembers b o k (noted b at k)
+remembers b o k at e = record { kept = refl; memory = go }
   where
-    go : (s : Bool) (i j : ℕ)
-        → recalled (positively b o.node k) s i ≡ Some j
+    go : (s : Bool) (i j : ℕ) → recalled (noted b at k) s i ≡ Some j
         → ((s ≡ o.sign) × (i ≡ o.node) × (j ≡ k)) ⊎ (recalled b s i ≡ Some j)
-    go true i j h = elim (set_some b.positive o.node k i j h) [ inl p ↦ inl (sym e, p.0, p.1) | inr q ↦ inr q ]
-    go false i j h = inr h
-
-pub remembers_negative : (b : Builder) (o : Operand) (k : ℕ) → o.sign ≡ false
-    → Remembers b o k (negatively b o.node k)
-remembers_negative b o k e = record { kept = refl; memory = go }
-  where
-    go : (s : Bool) (i j : ℕ)
-        → recalled (negatively b o.node k) s i ≡ Some j
-        → ((s ≡ o.sign) × (i ≡ o.node) × (j ≡ k)) ⊎ (recalled b s i ≡ Some j)
-    go true i j h = inr h
-    go false i j h = elim (set_some b.negative o.node k i j h) [ inl p ↦ inl (sym e, p.0, p.1) | inr q ↦ inr q ]
+    go s i j h = elim (set_some b.numbers at k (place_of s i) j h) [
+      | inl p ↦ let q = same_place s o.sign i o.node (p.0 ∙ e) in inl (q.0, q.1, p.1)
+      | inr q ↦ inr q
+    ]

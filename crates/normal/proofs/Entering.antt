@@ -11,11 +11,12 @@ use Rattle.formulas.specs.Trees.{grow, parts_below}
 use Rattle.formulas.proofs.Folds.{nth_within, nth_is, nth_more}
 use Rattle.index.specs.declared.Slot.{Slot}
 use Rattle.normal.specs.declared.builder.Builder.{Builder}
-use Rattle.normal.specs.declared.builder.Operand.{Operand}
+use Rattle.normal.specs.declared.operand.Operand.{Operand}
 use Rattle.normal.specs.declared.constants.Operator.{Operator}
 use Rattle.normal.specs.declared.constants.Operator.TheVariants.{And, Or}
 use Rattle.normal.specs.Building.{listed, Sound, Added, Adds, Remembers, Ready, Entered, Enters}
-use Rattle.normal.specs.Building.{formula_of, operand, number_of, literal_of, bounded_of, joined_of}
+use Rattle.normal.specs.Operands.{formula_of, operand}
+use Rattle.normal.specs.Building.{number_of, literal_of, bounded_of, joined_of}
 use Rattle.normal.proofs.Adding.{nth_in, listed_length}
 use Rattle.normal.proofs.Forms.{whole_of, bounded_tree}
 
@@ -167,12 +168,12 @@ module _ (op : Operator) (f g : Tree) {w : Tree} (whole_is : w ≡ whole_of op f
 
 -- ── memory ──
 -- the same list with another memory
-abbrev with : Builder → List (Option ℕ) → List (Option ℕ) → Builder
-with b p q = record { entries = b.entries; count = b.count; positive = p; negative = q }
+abbrev with : Builder → List (Option ℕ) → Builder
+with b p = record { entries = b.entries; count = b.count; numbers = p }
 
-sound_with : (slots : List (Slot Formula)) (b : Builder) (p q : List (Option ℕ)) → Sound slots b → Sound slots (with b p q)
+sound_with : (slots : List (Slot Formula)) (b : Builder) (p : List (Option ℕ)) → Sound slots b → Sound slots (with b p)
 unfolding listed
-sound_with slots b p q s = record {
+sound_with slots b p s = record {
   few = s.few;
   long = s.long;
   ordered = s.ordered;
@@ -182,20 +183,20 @@ sound_with slots b p q s = record {
   rest = s.rest;
 }
 
-listed_with : (b : Builder) (p q : List (Option ℕ)) → listed (with b p q) ≡ listed b
+listed_with : (b : Builder) (p : List (Option ℕ)) → listed (with b p) ≡ listed b
 unfolding listed
-listed_with b p q = refl
+listed_with b p = refl
 
 pub remembered : {ns : List Node} {slots : List (Slot Formula)} {b b1 b2 : Builder} {o : Operand} {k : ℕ}
     → Entered ns slots b (formula_of ns o) b1 k
     → Remembers b1 o k b2 → Entered ns slots b (formula_of ns o) b2 k
 remembered {ns} {slots} {b} {b1} {b2} {o} {k} d m =
-    let same : listed b2 ≡ listed b1 = ap listed m.kept ∙ listed_with b1 b2.positive b2.negative in
+    let same : listed b2 ≡ listed b1 = ap listed m.kept ∙ listed_with b1 b2.numbers in
     let at : (i : ℕ) (t : Tree) → slice_get (listed b1) i ≡ Some t → slice_get (listed b2) i ≡ Some t =
     λ i t h. subst (λ (ys : List Tree). slice_get ys i ≡ Some t) (sym same) h in
     record {
       ready = record {
-        sound = subst (Sound slots) (sym m.kept) (sound_with slots b1 b2.positive b2.negative d.ready.sound);
+        sound = subst (Sound slots) (sym m.kept) (sound_with slots b1 b2.numbers d.ready.sound);
         closed = subst Closed (sym same) d.ready.closed;
         first = at 0 bot d.ready.first;
         second = at 1 top d.ready.second;

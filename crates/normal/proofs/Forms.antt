@@ -12,14 +12,13 @@ use Rattle.nodes.specs.declared.node.Prefix.TheVariants as prefix
 use Rattle.nodes.specs.declared.node.Connective.{Connective}
 use Rattle.nodes.specs.declared.node.Connective.TheVariants as connective
 use Rattle.nodes.specs.Trees.{trees_of, grow, constant_of, parts_below}
-use Rattle.normal.specs.declared.builder.Operand.{Operand}
+use Rattle.normal.specs.declared.operand.Operand.{Operand}
 use Rattle.normal.specs.declared.constants.Operator.{Operator}
 use Rattle.normal.specs.declared.constants.Operator.TheVariants.{And, Or}
 use Rattle.normal.specs.declared.constants.Plan.{Plan}
 use Rattle.normal.specs.declared.constants.Plan.TheVariants.{Constant, First, Second, Both}
-use Rattle.normal.specs.Constants.{known, junction, opposite, plan_of, joint, constant_at}
-use Rattle.normal.specs.Building.{Given, formula_of, operand, signed_by, signed_of}
-use Rattle.normal.specs.Building.{unary_of, binary_of, both_of, neither_of, equivalence_of, operator_of}
+use Rattle.normal.specs.Constants.{known, junction, opposite, plan_of, joint, constant_at, under}
+use Rattle.normal.specs.Operands.{Given, formula_of, operand, unary_of, binary_of, both_of, equivalence_of}
 use Rattle.normal.proofs.Folding.{kind_junction, kind_opposite}
 use Rattle.normal.proofs.Places.{parts_below_lem, unary_below, binary_below, tree_at_lem}
 
@@ -39,6 +38,15 @@ known_other is_bot e = let z : ◌≡◌ {A = ℕ} 0 1 = cc in absurd (omega ari
 known_other is_top e = let z : ◌≡◌ {A = ℕ} 0 1 = cc in absurd (omega arith)
 known_other other e = refl
 
+-- the constant of a node or of its negation, by that of the node
+abbrev pub signed_by : Bool → Option Bool → Option Bool
+signed_by true a = a
+signed_by false a = opposite a
+
+-- an operand by its node and its sign
+pub operand_is : (o : Operand) {i : ℕ} {s : Bool} → o.node ≡ i → o.sign ≡ s → o ≡ operand i s
+operand_is o e f = λ j. record { node = e j; sign = f j }
+
 module _ {ns : List Node} {cs : List (Option Bool)} (given : Given ns cs) where
   signed_by_lem : (s : Bool) (i : ℕ) → i < length ns → signed_by s (get_or cs i None) ≡ known (kind (normal s (get_or (trees_of ns) i truth)))
   unfolding constant_at
@@ -46,7 +54,7 @@ module _ {ns : List Node} {cs : List (Option Bool)} (given : Given ns cs) where
   signed_by_lem false i h = ap opposite (given.known i h) ∙ sym (kind_opposite (get_or (trees_of ns) i truth))
 
   -- the constant that an operand is
-  pub signed_is : (o : Operand) → o.node < length ns → signed_of cs o ≡ known (kind (formula_of ns o))
+  pub signed_is : (o : Operand) → o.node < length ns → signed_by o.sign (get_or cs o.node None) ≡ known (kind (formula_of ns o))
   unfolding formula_of
   signed_is o h = signed_by_lem o.sign o.node h
 
@@ -80,35 +88,42 @@ plan_says Or f g = go (kind f) (kind g)
     go other is_top = refl
     go other other = refl
 
-module _ {ns : List Node} {cs : List (Option Bool)} (given : Given ns cs) where
-  pub pair_plan : (op : Operator) (a b : Operand) {x y : Option Bool} {p : Plan} → a.node < length ns → b.node < length ns
-      → x ≡ signed_of cs a → y ≡ signed_of cs b → p ≡ plan_of op x y
+module _ (ns : List Node) where
+  pub pair_plan : (op : Operator) (a b : Operand) {x y : Option Bool} {p : Plan}
+      → x ≡ known (kind (formula_of ns a)) → y ≡ known (kind (formula_of ns b)) → p ≡ plan_of op x y
       → Says op p (junction op (formula_of ns a) (formula_of ns b)) (formula_of ns a) (formula_of ns b)
-  pair_plan op a b {x} {y} {p} ha hb ex ey ep =
+  pair_plan op a b {x} {y} {p} ex ey ep =
       let f = formula_of ns a in
       let g = formula_of ns b in
       let e : p ≡ plan_of op (known (kind (formula_of ns a))) (known (kind (formula_of ns b))) =
-      ep ∙ (λ j. plan_of op ((ex ∙ signed_is given a ha) j) ((ey ∙ signed_is given b hb) j)) in
+      ep ∙ (λ j. plan_of op (ex j) (ey j)) in
       subst (λ (q : Plan). Says op q (junction op f g) f g) (sym e) (plan_says op f g)
 
-  half : (a b : Operand) {x y z : Option Bool} → a.node < length ns → b.node < length ns
-      → x ≡ signed_of cs a → y ≡ signed_of cs b → z ≡ joint And x y → z ≡ known (kind (junction And (formula_of ns a) (formula_of ns b)))
-  half a b {x} {y} {z} ha hb ex ey ez =
-      ez ∙ (λ j. joint And ((ex ∙ signed_is given a ha) j) ((ey ∙ signed_is given b hb) j))
-      ∙ sym (kind_junction And (formula_of ns a) (formula_of ns b))
+  half : (a b : Operand) {x y z : Option Bool}
+      → x ≡ known (kind (formula_of ns a)) → y ≡ known (kind (formula_of ns b)) → z ≡ joint And x y
+      → z ≡ known (kind (junction And (formula_of ns a) (formula_of ns b)))
+  half a b ex ey ez = ez ∙ (λ j. joint And (ex j) (ey j)) ∙ sym (kind_junction And (formula_of ns a) (formula_of ns b))
 
-  pub equivalence_plan : (a b : ℕ) (s : Bool) {x y z w both neither : Option Bool} {p : Plan} → a < length ns → b < length ns
-      → x ≡ signed_of cs (operand a true) → y ≡ signed_of cs (operand b s)
-      → z ≡ signed_of cs (operand a false) → w ≡ signed_of cs (operand b (not s))
-      → both ≡ joint And x y → neither ≡ joint And z w → p ≡ plan_of Or both neither
-      → Says Or p (equivalence_of ns a b s) (both_of ns a b s) (neither_of ns a b s)
-  equivalence_plan a b s {x} {y} {z} {w} {both} {neither} {p} ha hb ex ey ez ew e f ep =
-      let q = both_of ns a b s in
-      let r = neither_of ns a b s in
-      let e' : p ≡ plan_of Or (known (kind (both_of ns a b s))) (known (kind (neither_of ns a b s))) =
-      ep ∙ (λ j. plan_of Or (half (operand a true) (operand b s) ha hb ex ey e j)
-      (half (operand a false) (operand b (not s)) ha hb ez ew f j)) in
-      subst (λ (t : Plan). Says Or t (junction Or q r) q r) (sym e') (plan_says Or q r)
+  -- an equivalence of a and b, where p and q are these, and m and n their negations
+  pub equivalence_plan : (p q m n : Operand) {f : Tree} {x y z w both neither : Option Bool} {l : Plan}
+      → f ≡ junction Or (junction And (formula_of ns p) (formula_of ns q)) (junction And (formula_of ns m) (formula_of ns n))
+      → x ≡ known (kind (formula_of ns p)) → y ≡ known (kind (formula_of ns q))
+      → z ≡ known (kind (formula_of ns m)) → w ≡ known (kind (formula_of ns n))
+      → both ≡ joint And x y → neither ≡ joint And z w → l ≡ plan_of Or both neither
+      → Says Or l f (junction And (formula_of ns p) (formula_of ns q)) (junction And (formula_of ns m) (formula_of ns n))
+  equivalence_plan p q m n {f} {x} {y} {z} {w} {both} {neither} {l} is ex ey ez ew e g el =
+      let a = junction And (formula_of ns p) (formula_of ns q) in
+      let b = junction And (formula_of ns m) (formula_of ns n) in
+      let e' : l ≡ plan_of Or (known (kind (junction And (formula_of ns p) (formula_of ns q))))
+      (known (kind (junction And (formula_of ns m) (formula_of ns n)))) =
+      el ∙ (λ j. plan_of Or (half p q ex ey e j) (half m n ez ew g j)) in
+      subst (λ (t : Tree). Says Or l t a b) (sym is) (subst (λ (t : Plan). Says Or t (junction Or a b) a b) (sym e') (plan_says Or a b))
+
+  -- what an equivalence is, by operands that are the negations of its two
+  pub equivalence_is : (a b : ℕ) (s : Bool) (m n : Operand) → m ≡ operand a false → n ≡ operand b (not s)
+      → equivalence_of ns a b s ≡ junction Or (both_of ns a b s) (junction And (formula_of ns m) (formula_of ns n))
+  equivalence_is a b s m n e f =
+      λ j. junction Or (both_of ns a b s) (junction And (formula_of ns (sym e j)) (formula_of ns (sym f j)))
 
 -- ── nodes ──
 literal : (s : Bool) (v : ℕ) → normal s (variable v) ≡ lit s v
@@ -203,19 +218,19 @@ module _ (ns : List Node) (o : Operand) where
 -- ── under a binary operator ──
 module _ (ns : List Node) (a b : ℕ) where
   pub binary_and : (s : Bool)
-      → binary_of ns connective.And a b s ≡ junction (operator_of s) (formula_of ns (operand a s)) (formula_of ns (operand b s))
+      → binary_of ns connective.And a b s ≡ junction (under And s) (formula_of ns (operand a s)) (formula_of ns (operand b s))
   unfolding binary_of formula_of
   binary_and true = refl
   binary_and false = refl
 
   pub binary_or : (s : Bool)
-      → binary_of ns connective.Or a b s ≡ junction (operator_of (not s)) (formula_of ns (operand a s)) (formula_of ns (operand b s))
+      → binary_of ns connective.Or a b s ≡ junction (under Or s) (formula_of ns (operand a s)) (formula_of ns (operand b s))
   unfolding binary_of formula_of
   binary_or true = refl
   binary_or false = refl
 
   pub binary_implies : (s : Bool)
-      → binary_of ns connective.Implies a b s ≡ junction (operator_of (not s)) (formula_of ns (operand a (not s))) (formula_of ns (operand b s))
+      → binary_of ns connective.Implies a b s ≡ junction (under Or s) (formula_of ns (operand a (not s))) (formula_of ns (operand b s))
   unfolding binary_of formula_of
   binary_implies true = refl
   binary_implies false = refl

@@ -1,6 +1,7 @@
 -- The list from its beginning to its end.
-use Rattle.std.proofs.Common.{◌≡◌, ℕ, ◌-◌, ◌<◌, ◌≤◌, Bool, true, false, List, [], ◌∷◌, length, get_or, take, drop, replicate, Some, None, Option, sym, refl, ap, ◌∙◌, subst, ⊎_elim, arith}
+use Rattle.std.proofs.Common.{◌≡◌, ℕ, ◌-◌, ◌<◌, ◌≤◌, Bool, true, List, [], ◌∷◌, length, get_or, take, drop, replicate, Some, None, Option, sym, refl, ap, ◌∙◌, subst, ⊎_elim, arith}
 use Rattle.std.specs.List.{slice_get}
+use Rattle.std.specs.Option.{ok_or}
 use Rattle.std.proofs.lemmas.List.{get_or-replicate, get_or_past, length-replicate}
 use Rattle.std.proofs.lemmas.Bool.{cases_lt}
 use Rattle.temporal.specs.Formula.{Formula as Tree, bot, top}
@@ -15,17 +16,19 @@ use Rattle.formulas.proofs.Folds.{nth_within}
 use Rattle.index.specs.declared.Slot.{Slot}
 use Rattle.index.specs.Keyed.{Indexed}
 use Rattle.normal.specs.declared.builder.Builder.{Builder}
-use Rattle.normal.specs.Building.{listed, Sound, recalled, Added, Adds, formula_of, operand, parts_for}
-use Rattle.normal.specs.Building.{Entered, Begun, Finished, Listed}
+use Rattle.normal.specs.Operands.{formula_of, operand, place_of}
+use Rattle.normal.specs.Building.{listed, Sound, recalled, Added, Adds, parts_for}
+use Rattle.normal.specs.Building.{Entered, Begun, Finished, Listed, ListedBy}
 use Rattle.normal.specs.declared.table.Formulas.{Formulas}
-use Rattle.normal.specs.Normalized.{parts_in, Lists}
+use Rattle.normal.specs.declared.table.Refusal.TheVariants.{TooMany}
+use Rattle.normal.specs.Normalized.{parts_in, Leaves, Lists, Normalized}
 use Rattle.nodes.specs.declared.syntax.Syntax.{Syntax}
 use Rattle.normal.proofs.Adding.{listed_length}
 use Rattle.normal.proofs.Entering.{kept}
 
 -- ── the beginning ──
 abbrev pub empty : Builder
-empty = record { entries = replicate 256 entry.False; count = 0; positive = replicate 1024 None; negative = replicate 1024 None }
+empty = record { entries = replicate 256 entry.False; count = 0; numbers = replicate 2048 None }
 
 pub empty_sound : (slots : List (Slot Formula)) → Indexed entry_code slots [] → 2048 ≤ length slots → Sound slots empty
 unfolding listed
@@ -52,8 +55,7 @@ none n i = ⊎_elim (λ (h : i < n). get_or-replicate n i nothing nothing h)
     (cases_lt i n)
 
 recalled_none : (s : Bool) (i : ℕ) → recalled empty s i ≡ None
-recalled_none true i = none 1024 i
-recalled_none false i = none 1024 i
+recalled_none s i = none 2048 (place_of s i)
 
 -- what is added to a short list is added
 added_some : (slots : List (Slot Formula)) (b : Builder) (e : Formula) (after : Builder) (r : Option ℕ) (ys : List Tree)
@@ -169,3 +171,10 @@ module _ (s : Syntax) (ns : List Node) (e : ns ≡ take s.count s.nodes) (slots 
       let l : Listed (take s.count s.nodes) s.initial s.safety slots f =
       subst (λ (ms : List Node). Listed ms s.initial s.safety slots f) e d in
       (l.short, record { list = l.list; initial = l.initial; safety = l.safety; rest = l.rest })
+
+  -- what the text's list is, by whether there is one
+  pub text_answered : (n : ℕ) → 2048 ≤ n → (before : List (Slot Formula)) → length slots ≡ length before → (r : Option Formulas)
+      → ListedBy ns s.initial s.safety slots r
+      → Normalized s n (ok_or r TooMany) × Leaves before (ok_or r TooMany) slots
+  text_answered n h before l None d = ((h, text_over d), l)
+  text_answered n h before l (Some f) d = let t = text_listed f d in ((h, t.0, t.1), d.indexed)

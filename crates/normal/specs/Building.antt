@@ -1,14 +1,10 @@
 -- The list of formulas as it is built: what it stands for, and what entering one more formula does to it.
 -- This is what the steps inside the crate say of each other; `Normalized` says what comes out.
-use Rattle.std.specs.Prelude.{◌≡◌, ℕ, ◌-◌, ◌<◌, ◌≤◌, Bool, true, false, not, ◌⊎◌, List, [], ◌∷◌, length, take, drop, replicate, Some, None, Option, MatchOption, slice_index_or}
+use Rattle.std.specs.Prelude.{◌≡◌, ℕ, ◌-◌, ◌<◌, ◌≤◌, Bool, true, false, ◌⊎◌, List, [], ◌∷◌, length, take, drop, replicate, Some, None, Option, MatchOption, slice_index_or}
 use Rattle.std.specs.List.{slice_get}
 use Rattle.temporal.specs.Formula.{Formula as Tree, bot, top}
-use Rattle.temporal.specs.Written.{truth, normal}
 use Rattle.temporal.specs.Parts.{put, enter, parts_of, Once, Closed}
 use Rattle.nodes.specs.declared.node.Node.{Node}
-use Rattle.nodes.specs.declared.node.Prefix.{Prefix}
-use Rattle.nodes.specs.declared.node.Connective.{Connective}
-use Rattle.nodes.specs.Trees.{trees_of, apply, join, ordered as in_order}
 use Rattle.formulas.specs.declared.Formula.{Formula}
 use Rattle.formulas.specs.declared.Formula.TheVariants as entry
 use Rattle.formulas.specs.Entries.{entry_code}
@@ -16,11 +12,11 @@ use Rattle.formulas.specs.Trees.{grow, trees, ordered}
 use Rattle.index.specs.declared.Slot.{Slot}
 use Rattle.index.specs.Keyed.{Indexed}
 use Rattle.normal.specs.declared.builder.Builder.{Builder}
-use Rattle.normal.specs.declared.builder.Operand.{Operand}
+use Rattle.normal.specs.declared.operand.Operand.{Operand}
 use Rattle.normal.specs.declared.table.Formulas.{Formulas}
 use Rattle.normal.specs.declared.constants.Operator.{Operator}
 use Rattle.normal.specs.declared.constants.Operator.TheVariants.{And, Or}
-use Rattle.normal.specs.Constants.{Known, junction, opposite}
+use Rattle.normal.specs.Operands.{formula_of, operand, place_of}
 
 -- ── the list ──
 abbrev pub entries_of : Builder → List Formula
@@ -43,8 +39,7 @@ pub record Sound (slots : List (Slot Formula)) (b : Builder) : Type 0 where
 -- ── the memory ──
 -- the number that is remembered for node i (true) or its negation (false)
 abbrev pub recalled : Builder → Bool → ℕ → Option ℕ
-recalled b true i = slice_index_or b.positive i None
-recalled b false i = slice_index_or b.negative i None
+recalled b s i = slice_index_or b.numbers (place_of s i) None
 
 -- after an entry e is added, its formula is listed at k
 pub record Added (slots : List (Slot Formula)) (b : Builder) (e : Formula) (after : Builder) (k : ℕ) : Type 0 where
@@ -55,43 +50,9 @@ pub record Added (slots : List (Slot Formula)) (b : Builder) (e : Formula) (afte
 
 -- the number k is remembered for an operand, and nothing else is changed
 pub record Remembers (b : Builder) (o : Operand) (k : ℕ) (after : Builder) : Type 0 where
-  pub kept : after ≡ record { entries = b.entries; count = b.count; positive = after.positive; negative = after.negative }
+  pub kept : after ≡ record { entries = b.entries; count = b.count; numbers = after.numbers }
   pub memory : (s : Bool) (i j : ℕ) → recalled after s i ≡ Some j
       → ((s ≡ o.sign) × (i ≡ o.node) × (j ≡ k)) ⊎ (recalled b s i ≡ Some j)
-
--- ── entering ──
--- the formula that an operand stands for
-unfoldable pub formula_of : List Node → Operand → Tree
-formula_of ns o = normal o.sign (slice_index_or (trees_of ns) o.node truth)
-
--- the constant that an operand is, by those of the nodes
-abbrev pub signed_by : Bool → Option Bool → Option Bool
-signed_by true a = a
-signed_by false a = opposite a
-
-abbrev pub signed_of : List (Option Bool) → Operand → Option Bool
-signed_of cs o = signed_by o.sign (slice_index_or cs o.node None)
-
--- node i (true) or its negation (false)
-abbrev pub operand : ℕ → Bool → Operand
-operand i s = record { node = i; sign = s }
-
--- what an operand stands for under a unary operator, or two under a binary one
-unfoldable pub unary_of : List Node → Prefix → Operand → Tree
-unary_of ns p o = normal o.sign (apply p (slice_index_or (trees_of ns) o.node truth))
-
-unfoldable pub binary_of : List Node → Connective → ℕ → ℕ → Bool → Tree
-binary_of ns c a b s = normal s (join c (slice_index_or (trees_of ns) a truth) (slice_index_or (trees_of ns) b truth))
-
--- the two conjunctions that an equivalence is made of
-abbrev pub both_of : List Node → ℕ → ℕ → Bool → Tree
-both_of ns a b s = junction And (formula_of ns (operand a true)) (formula_of ns (operand b s))
-
-abbrev pub neither_of : List Node → ℕ → ℕ → Bool → Tree
-neither_of ns a b s = junction And (formula_of ns (operand a false)) (formula_of ns (operand b (not s)))
-
-abbrev pub equivalence_of : List Node → ℕ → ℕ → Bool → Tree
-equivalence_of ns a b s = junction Or (both_of ns a b s) (neither_of ns a b s)
 
 -- ── entries ──
 -- the number of a constant
@@ -114,17 +75,7 @@ abbrev pub joined_of : Operator → ℕ → ℕ → Formula
 joined_of And a b = entry.And a b
 joined_of Or a b = entry.Or a b
 
-abbrev pub operator_of : Bool → Operator
-operator_of true = And
-operator_of false = Or
-
--- ── what is given, and what is done ──
--- the nodes are in order, and their constants known
-pub record Given (ns : List Node) (cs : List (Option Bool)) : Type 0 where
-  pub few : length ns ≤ 1024
-  pub ordered : in_order ns ≡ true
-  pub known : Known ns cs
-
+-- ── what is done ──
 -- the list begins with the constants, has the parts of what it has, and the memory is right
 pub record Ready (ns : List Node) (slots : List (Slot Formula)) (b : Builder) : Type 0 where
   pub sound : Sound slots b

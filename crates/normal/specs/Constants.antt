@@ -29,6 +29,13 @@ abbrev pub opposite : Option Bool → Option Bool
 opposite (Some b) = Some (not b)
 opposite None = None
 
+-- the operator of a conjunction or disjunction (true), or of its negation (false)
+abbrev pub under : Operator → Bool → Operator
+under And true = And
+under And false = Or
+under Or true = Or
+under Or false = And
+
 -- how to make a conjunction or disjunction whose parts are these constants, if any: it is a constant, or one part, or it needs both
 abbrev pub plan_of : Operator → Option Bool → Option Bool → Plan
 plan_of And (Some true) b = Second

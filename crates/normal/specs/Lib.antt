@@ -1,3 +1,4 @@
 pub mod Constants
+pub mod Operands
 pub mod Building
 pub mod Normalized

@@ -1,19 +1,31 @@
-// Which nodes have a constant as their normal form.
+//! Which nodes have a constant as their normal form.
 ghost use Rattle.std.specs.Prelude.{◌≡◌, ◌≤◌, true, length, None, slice_index_or};
 ghost use Rattle.nodes.specs.Trees.{ordered as in_order};
-ghost use Rattle.normal.specs.Constants.{Known, joint as joint_of, node_constant, opposite as opposite_of, plan_of};
+ghost use Rattle.normal.specs.Constants.{Known, joint as joint_of, node_constant, opposite as opposite_of, plan_of, under};
 ghost use Rattle.normal.specs.Constants.{under_connective, under_prefix};
 
 use nodes::node::{Connective, Node, Prefix};
 
-// A conjunction or a disjunction.
+/// A conjunction or a disjunction.
 #[derive(Clone, Copy)]
 pub enum Operator {
     And,
     Or,
 }
 
-// A conjunction or disjunction is a constant, or one of its parts where the other is a constant, or it needs both parts.
+impl Operator {
+    /// The operator itself, or where the sign is `false` the one that its negation has.
+    pub(crate) fn under(self, sign: bool) -> Operator
+        ensures { result ≡ under self sign }
+    {
+        match (self, sign) {
+            (Operator::And, true) | (Operator::Or, false) => Operator::And,
+            (Operator::Or, true) | (Operator::And, false) => Operator::Or,
+        }
+    }
+}
+
+/// A conjunction or disjunction is a constant, or one of its parts where the other is a constant, or it needs both parts.
 #[derive(Clone, Copy)]
 pub enum Plan {
     Constant(bool),
@@ -22,24 +34,21 @@ pub enum Plan {
     Both,
 }
 
-// What stands at a place, and nothing past the end.
+/// What stands at a place, and nothing past the end.
 pub fn read<T: Copy>(xs: &[Option<T>], i: usize) -> Option<T>
     ensures { result ≡ slice_index_or xs.now i None }
 {
-    if i < xs.len() { xs[i] } else { None }
+    xs.get(i).copied().flatten()
 }
 
-// The constant that the negation is, if any.
+/// The constant that the negation is, if any.
 pub fn opposite(a: Option<bool>) -> Option<bool>
     ensures { result ≡ opposite_of a }
 {
-    match a {
-        Some(x) => Some(!x),
-        None => None,
-    }
+    a.map(|x| !x)
 }
 
-// How to make a conjunction or disjunction, given the constants that its parts are.
+/// How to make a conjunction or disjunction, given the constants that its parts are.
 pub fn plan_for(operator: Operator, a: Option<bool>, b: Option<bool>) -> Plan
     ensures { result ≡ plan_of operator a b }
 {
@@ -57,7 +66,7 @@ pub fn plan_for(operator: Operator, a: Option<bool>, b: Option<bool>) -> Plan
     }
 }
 
-// The constant that a conjunction or disjunction is, given the constants that its parts are.
+/// The constant that a conjunction or disjunction is, given the constants that its parts are.
 pub fn joint(operator: Operator, a: Option<bool>, b: Option<bool>) -> Option<bool>
     ensures { result ≡ joint_of operator a b }
 {
@@ -69,19 +78,17 @@ pub fn joint(operator: Operator, a: Option<bool>, b: Option<bool>) -> Option<boo
     }
 }
 
-// The constant that a unary operator gives.
+/// The constant that a unary operator gives.
 fn under_prefix(prefix: Prefix, a: Option<bool>) -> Option<bool>
     ensures { result ≡ under_prefix prefix a }
 {
     match prefix {
         Prefix::Not => opposite(a),
-        Prefix::Next(_) => a,
-        Prefix::Always(_, _) => a,
-        Prefix::Eventually(_, _) => a,
+        Prefix::Next(_) | Prefix::Always(_, _) | Prefix::Eventually(_, _) => a,
     }
 }
 
-// The constant that a binary operator gives.
+/// The constant that a binary operator gives.
 fn under_connective(connective: Connective, a: Option<bool>, b: Option<bool>) -> Option<bool>
     ensures { result ≡ under_connective connective a b }
 {
@@ -97,7 +104,7 @@ fn under_connective(connective: Connective, a: Option<bool>, b: Option<bool>) ->
     }
 }
 
-// The constant that a node is, given those that the nodes before it are.
+/// The constant that a node is, given those that the nodes before it are.
 fn node_constant(constants: &[Option<bool>], node: Node) -> Option<bool>
     ensures { result ≡ node_constant constants.now node }
 {
@@ -113,15 +120,15 @@ fn node_constant(constants: &[Option<bool>], node: Node) -> Option<bool>
     }
 }
 
-// For each node the constant that its normal form is, if any.
+/// For each node the constant that its normal form is, if any.
 pub fn constants(nodes: &[Node]) -> [Option<bool>; 1024]
     requires few { length nodes.now ≤ 1024 }
     requires ordered { in_order nodes.now ≡ true }
     ensures { Known nodes.now result }
 {
     let mut constants = [None; 1024];
-    for i in 0..nodes.len() {
-        constants[i] = node_constant(&constants, nodes[i]);
+    for (i, node) in nodes.iter().enumerate() {
+        constants[i] = node_constant(&constants, *node);
     }
     constants
 }

@@ -1,4 +1,4 @@
-// From the nodes of a text to the list of its formulas in normal form.
+//! From the nodes of a text to the list of its formulas in normal form.
 #![tactic(auto)]
 
 ghost use Rattle.std.specs.Prelude.{◌≡◌, ◌<◌, ◌≤◌, true, [], length};
@@ -8,19 +8,23 @@ ghost use Rattle.nodes.specs.Trees.{ordered as in_order};
 ghost use Rattle.normal.specs.Building.{ListedBy};
 ghost use Rattle.normal.specs.Normalized.{Leaves, Normalized};
 
-use builder::{Builder, Operand};
+use builder::Builder;
 use constants::constants;
 use formulas::Formula;
 use index::{Key, Slot, clear};
+use known::KnownNodes;
 use nodes::node::Node;
 use nodes::syntax::Syntax;
+use operand::Operand;
 use table::{Formulas, Refusal};
 
 mod builder;
 mod constants;
+mod known;
+mod operand;
 pub mod table;
 
-// The list of the formulas of two nodes, unless it has more than 256 entries.
+/// The list of the formulas of two nodes, unless it has more than 256 entries.
 fn list_of(
     nodes: &[Node],
     initial: usize,
@@ -35,11 +39,13 @@ fn list_of(
     requires room { 2048 ≤ length slots.old }
     ensures { ListedBy nodes.now initial safety slots.new result }
 {
-    let known = constants(nodes);
+    let known = KnownNodes {
+        nodes,
+        constants: &constants(nodes),
+    };
     let mut builder = Builder::new(slots);
     let first = builder.enter(
-        nodes,
-        &known,
+        known,
         slots,
         Operand {
             node: initial,
@@ -47,8 +53,7 @@ fn list_of(
         },
     )?;
     let second = builder.enter(
-        nodes,
-        &known,
+        known,
         slots,
         Operand {
             node: safety,
@@ -58,8 +63,8 @@ fn list_of(
     Some(builder.finish(first, second))
 }
 
-// The list of the formulas of a text in normal form, with all their parts.
-// The slots are the room for an index of the list; it wants at least 2,048 of them, whatever they hold.
+/// The list of the formulas of a text in normal form, with all their parts.
+/// The slots are the room for an index of the list; it wants at least 2,048 of them, whatever they hold.
 pub fn normalize(syntax: &Syntax, slots: &mut [Slot<Formula>]) -> Result<Formulas, Refusal>
     ensures value { Normalized syntax.now (length slots.old) result }
     ensures slots { Leaves slots.old result slots.new }
@@ -68,15 +73,8 @@ pub fn normalize(syntax: &Syntax, slots: &mut [Slot<Formula>]) -> Result<Formula
         return Err(Refusal::Short);
     }
     clear(slots);
-    match list_of(
-        &syntax.nodes[0..syntax.count],
-        syntax.initial,
-        syntax.safety,
-        slots,
-    ) {
-        Some(formulas) => Ok(formulas),
-        None => Err(Refusal::TooMany),
-    }
+    let nodes = &syntax.nodes[0..syntax.count];
+    list_of(nodes, syntax.initial, syntax.safety, slots).ok_or(Refusal::TooMany)
 }
 
 #[cfg(test)]
@@ -86,7 +84,7 @@ mod tests {
     use nodes::node::Connective;
     use std::test::Fail;
 
-    // `True`, and `p <-> q` with an environment variable p and a system variable q.
+    /// `True`, and `p <-> q` with an environment variable p and a system variable q.
     fn equivalence() -> Syntax {
         let mut nodes = [Node::Constant(true); 1024];
         nodes[1] = Node::Variable(0);
@@ -100,7 +98,7 @@ mod tests {
         }
     }
 
-    // False, True, p, q, p & q, -p, -q, -p & -q, and the disjunction of the two conjunctions.
+    /// False, True, p, q, p & q, -p, -q, -p & -q, and the disjunction of the two conjunctions.
     #[test]
     fn equivalence_is_two_conjunctions(rt: HostRuntime) -> Result<(), Fail> {
         let mut slots = [Slot::holding(Formula::False, 7); 2048];
@@ -124,9 +122,6 @@ mod tests {
     }
 
     fn is_short(r: Result<Formulas, Refusal>) -> bool {
-        match r {
-            Err(Refusal::Short) => true,
-            _ => false,
-        }
+        matches!(r, Err(Refusal::Short))
     }
 }

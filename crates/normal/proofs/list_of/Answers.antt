@@ -4,9 +4,11 @@ use Rattle.normal.specs.Building.{ListedBy}
 use Rattle.normal.proofs.Whole.{initial_over, whole, whole_rooted, finished}
 use Rattle.normal.proofs.list_of.Goals as goal
 
+pub invariant_of-known : goal.invariant_of-known
+invariant_of-known c = record { given = record { few = c.requires.few; ordered = c.requires.ordered; known = c.constants.ensures } }
+
 pub enter-requires : goal.enter-requires
 enter-requires c = record {
-  given = record { few = c.requires.few; ordered = c.requires.ordered; known = c.constants-known.ensures };
   within = c.requires.first;
   ready = c.new-builder.ensures.ready c.args.nodes.now;
 }

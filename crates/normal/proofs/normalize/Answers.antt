@@ -1,22 +1,17 @@
-use Rattle.std.proofs.Common.{◌≡◌, ℕ, ◌-◌, take, ap, arith}
-use Rattle.normal.proofs.Whole.{text_over, text_listed}
+use Rattle.std.proofs.Common.{◌≡◌, ℕ, ◌-◌, take, Result, sym, ap, subst, arith}
+use Rattle.normal.specs.declared.table.Formulas.{Formulas}
+use Rattle.normal.specs.declared.table.Refusal.{Refusal}
+use Rattle.normal.specs.Normalized.{Leaves, Normalized}
+use Rattle.normal.proofs.Whole.{text_answered}
 use Rattle.normal.proofs.normalize.Goals as goal
 
-pub returns-in-Some : goal.returns-in-Some
-returns-in-Some c =
+pub returns : goal.returns
+returns c =
+    let s = c.args.syntax.now in
     let all : c.args.syntax.now.count - 0 ≡ c.args.syntax.now.count = omega arith in
-    let d = text_listed c.args.syntax.now (take (c.args.syntax.now.count - 0) c.args.syntax.now.nodes)
-    (ap (λ (n : ℕ). take n c.args.syntax.now.nodes) all) c.list_of.new.slots c.in-Some.formulas c.in-Some.ensures in
-    record { value = (c.if-slots-lt2048.false, d.0, d.1); slots = c.in-Some.ensures.indexed }
-
-pub returns-in-None : goal.returns-in-None
-returns-in-None c =
-    let all : c.args.syntax.now.count - 0 ≡ c.args.syntax.now.count = omega arith in
+    let d = text_answered s (take (s.count - 0) s.nodes) (ap (λ (n : ℕ). take n s.nodes) all) c.list_of.new.slots _ c.if-slots-lt2048.false
+    c.args.slots.now (omega arith) c.list_of.result c.list_of.ensures in
     record {
-      value = (
-        c.if-slots-lt2048.false,
-        text_over c.args.syntax.now (take (c.args.syntax.now.count - 0) c.args.syntax.now.nodes)
-            (ap (λ (n : ℕ). take n c.args.syntax.now.nodes) all) c.list_of.new.slots c.in-None.ensures,
-      );
-      slots = omega arith;
+      value = subst (Normalized s _) (sym c.ok_or.ensures.value) d.0;
+      slots = subst (λ (r : Result Formulas Refusal). Leaves c.args.slots.now r c.list_of.new.slots) (sym c.ok_or.ensures.value) d.1;
     }
