@@ -18,7 +18,7 @@ use Rattle.normal.specs.declared.constants.Operator.TheVariants.{And, Or}
 use Rattle.normal.specs.declared.constants.Plan.{Plan}
 use Rattle.normal.specs.declared.constants.Plan.TheVariants.{Constant, First, Second, Both}
 use Rattle.normal.specs.Constants.{known, junction, opposite, plan_of, joint, constant_at, under}
-use Rattle.normal.specs.Operands.{Given, formula_of, operand, unary_of, binary_of, both_of, equivalence_of}
+use Rattle.normal.specs.Operands.{Given, Negates, formula_of, operand, unary_of, binary_of, both_of, equivalence_of}
 use Rattle.normal.proofs.Folding.{kind_junction, kind_opposite}
 use Rattle.normal.proofs.Places.{parts_below_lem, unary_below, binary_below, tree_at_lem}
 
@@ -43,9 +43,9 @@ abbrev pub signed_by : Bool → Option Bool → Option Bool
 signed_by true a = a
 signed_by false a = opposite a
 
--- an operand by its node and its sign
-pub operand_is : (o : Operand) {i : ℕ} {s : Bool} → o.node ≡ i → o.sign ≡ s → o ≡ operand i s
-operand_is o e f = λ j. record { node = e j; sign = f j }
+-- the negation of an operand, by its node and its sign
+pub negation_is : {o m : Operand} → Negates o m → m ≡ operand o.node (not o.sign)
+negation_is n = λ j. record { node = n.node j; sign = n.sign j }
 
 module _ {ns : List Node} {cs : List (Option Bool)} (given : Given ns cs) where
   signed_by_lem : (s : Bool) (i : ℕ) → i < length ns → signed_by s (get_or cs i None) ≡ known (kind (normal s (get_or (trees_of ns) i truth)))
@@ -104,26 +104,24 @@ module _ (ns : List Node) where
       → z ≡ known (kind (junction And (formula_of ns a) (formula_of ns b)))
   half a b ex ey ez = ez ∙ (λ j. joint And (ex j) (ey j)) ∙ sym (kind_junction And (formula_of ns a) (formula_of ns b))
 
-  -- an equivalence of a and b, where p and q are these, and m and n their negations
-  pub equivalence_plan : (p q m n : Operand) {f : Tree} {x y z w both neither : Option Bool} {l : Plan}
-      → f ≡ junction Or (junction And (formula_of ns p) (formula_of ns q)) (junction And (formula_of ns m) (formula_of ns n))
-      → x ≡ known (kind (formula_of ns p)) → y ≡ known (kind (formula_of ns q))
+  -- an equivalence, where m and n are the negations of its two operands
+  pub equivalence_plan : (a b : ℕ) (s : Bool) {m n : Operand} {x y z w both neither : Option Bool} {l : Plan}
+      → Negates (operand a true) m → Negates (operand b s) n
+      → x ≡ known (kind (formula_of ns (operand a true))) → y ≡ known (kind (formula_of ns (operand b s)))
       → z ≡ known (kind (formula_of ns m)) → w ≡ known (kind (formula_of ns n))
       → both ≡ joint And x y → neither ≡ joint And z w → l ≡ plan_of Or both neither
-      → Says Or l f (junction And (formula_of ns p) (formula_of ns q)) (junction And (formula_of ns m) (formula_of ns n))
-  equivalence_plan p q m n {f} {x} {y} {z} {w} {both} {neither} {l} is ex ey ez ew e g el =
-      let a = junction And (formula_of ns p) (formula_of ns q) in
-      let b = junction And (formula_of ns m) (formula_of ns n) in
-      let e' : l ≡ plan_of Or (known (kind (junction And (formula_of ns p) (formula_of ns q))))
+      → Says Or l (equivalence_of ns a b s) (both_of ns a b s) (junction And (formula_of ns m) (formula_of ns n))
+  equivalence_plan a b s {m} {n} {x} {y} {z} {w} {both} {neither} {l} am bn ex ey ez ew e g el =
+      let p = operand a true in
+      let q = operand b s in
+      let f = both_of ns a b s in
+      let h = junction And (formula_of ns m) (formula_of ns n) in
+      let is : equivalence_of ns a b s ≡ junction Or (both_of ns a b s) (junction And (formula_of ns m) (formula_of ns n)) =
+      λ j. junction Or (both_of ns a b s) (junction And (formula_of ns (sym (negation_is am) j)) (formula_of ns (sym (negation_is bn) j))) in
+      let e' : l ≡ plan_of Or (known (kind (both_of ns a b s)))
       (known (kind (junction And (formula_of ns m) (formula_of ns n)))) =
-      el ∙ (λ j. plan_of Or (half p q ex ey e j) (half m n ez ew g j)) in
-      subst (λ (t : Tree). Says Or l t a b) (sym is) (subst (λ (t : Plan). Says Or t (junction Or a b) a b) (sym e') (plan_says Or a b))
-
-  -- what an equivalence is, by operands that are the negations of its two
-  pub equivalence_is : (a b : ℕ) (s : Bool) (m n : Operand) → m ≡ operand a false → n ≡ operand b (not s)
-      → equivalence_of ns a b s ≡ junction Or (both_of ns a b s) (junction And (formula_of ns m) (formula_of ns n))
-  equivalence_is a b s m n e f =
-      λ j. junction Or (both_of ns a b s) (junction And (formula_of ns (sym e j)) (formula_of ns (sym f j)))
+      el ∙ (λ j. plan_of Or (half (operand a true) (operand b s) ex ey e j) (half m n ez ew g j)) in
+      subst (λ (t : Tree). Says Or l t f h) (sym is) (subst (λ (t : Plan). Says Or t (junction Or f h) f h) (sym e') (plan_says Or f h))
 
 -- ── nodes ──
 literal : (s : Bool) (v : ℕ) → normal s (variable v) ≡ lit s v

@@ -23,6 +23,11 @@ formula_of ns o = normal o.sign (slice_index_or (trees_of ns) o.node truth)
 abbrev pub operand : ℕ → Bool → Operand
 operand i s = record { node = i; sign = s }
 
+-- m is the negation of o
+pub record Negates (o m : Operand) : Type 0 where
+  pub node : m.node ≡ o.node
+  pub sign : m.sign ≡ not o.sign
+
 -- what an operand stands for under a unary operator, or two under a binary one
 unfoldable pub unary_of : List Node → Prefix → Operand → Tree
 unary_of ns p o = normal o.sign (apply p (slice_index_or (trees_of ns) o.node truth))

@@ -18,6 +18,7 @@ use index::{Slot, find, insert};
 use nodes::node::{Connective, Node, Prefix};
 
 /// The formulas listed so far, and for each operand, by its place, the number that it has in the list.
+/// The list is an array with a count, and not a `Vec`, since nothing here allocates.
 #[derive(Drop)]
 pub struct Builder {
     pub entries: [Formula; 256],

@@ -1,6 +1,6 @@
 //! A node or its negation.
-ghost use Rattle.std.specs.Prelude.{◌≡◌, ◌<◌, not};
-ghost use Rattle.normal.specs.Operands.{place_of};
+ghost use Rattle.std.specs.Prelude.{◌≡◌, ◌<◌};
+ghost use Rattle.normal.specs.Operands.{Negates, place_of};
 
 /// A node, or its negation where the sign is `false`.
 #[derive(Clone, Copy)]
@@ -12,8 +12,7 @@ pub struct Operand {
 impl Operand {
     /// The negation.
     pub(crate) fn negated(self) -> Operand
-        ensures node { result.node ≡ self.node }
-        ensures sign { result.sign ≡ not self.sign }
+        ensures { Negates self result }
     {
         Operand {
             sign: !self.sign,

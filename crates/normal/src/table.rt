@@ -5,7 +5,8 @@ ghost use Rattle.formulas.specs.Trees.{ordered as in_order};
 use formulas::Formula;
 
 /// The formulas of a specification with all their parts: entry 0 is False, entry 1 is True, parts come before wholes.
-/// `initial` and `safety` are the numbers of its two formulas.
+/// `initial` and `safety` are the numbers of its two formulas. The list is an array with a count, and not a `Vec`, since it is `Copy` and
+/// nothing here allocates.
 #[derive(Clone, Copy)]
 pub struct Formulas {
     pub table: [Formula; 256],

@@ -1,4 +1,4 @@
-use Rattle.std.proofs.Common.{◌≡◌, true, not, sym, refl, ap, ◌∙◌, arith}
+use Rattle.std.proofs.Common.{◌≡◌, not, sym, refl, ap, ◌∙◌, arith}
 use Rattle.temporal.specs.Formula.{next, kind, other}
 use Rattle.nodes.specs.declared.node.Prefix.TheVariants as prefix
 use Rattle.formulas.specs.declared.Formula.TheVariants.{Next}
@@ -6,7 +6,7 @@ use Rattle.normal.specs.declared.constants.Operator.TheVariants.{And, Or}
 use Rattle.normal.specs.Constants.{junction}
 use Rattle.normal.specs.Operands.{formula_of, operand, unary_of, binary_of, both_of, equivalence_of}
 use Rattle.normal.specs.Building.{listed}
-use Rattle.normal.proofs.Forms.{bounded_tree, known_constant, known_other, operand_is, pair_plan, equivalence_plan, equivalence_is}
+use Rattle.normal.proofs.Forms.{bounded_tree, known_constant, negation_is, pair_plan, equivalence_plan}
 use Rattle.normal.proofs.Forms.{node_constant_lem, node_variable, node_unary, node_binary}
 use Rattle.normal.proofs.Forms.{unary_not, unary_next, unary_always, unary_eventually}
 use Rattle.normal.proofs.Forms.{binary_and, binary_or, binary_implies, binary_equivalent}
@@ -47,7 +47,7 @@ binary-returns-in-Implies t c =
     alike ns _ _ _ _
     (ap (λ k. binary_of ns k c.args.a c.args.b s) c.in-Implies.is ∙ binary_implies ns c.args.a c.args.b s
     ∙ (λ j. junction (sym c.under-in-Implies.ensures j)
-    (formula_of ns (sym (operand_is c.negated.result c.negated.ensures.node c.negated.ensures.sign) j)) g))
+    (formula_of ns (sym (negation_is c.negated.ensures) j)) g))
     c.pair-in-Implies.ensures
 
 pub binary-returns-in-Equivalent : goal.binary-returns-in-Equivalent
@@ -109,12 +109,6 @@ enter-returns-in-Some-recall t c =
     let o = c.args.operand in
     stays c.requires.ready (c.requires.ready.memory o.sign o.node c.in-Some-recall.number (sym c.in-Some-recall.ensures))
 
-pub enter-build-requires : goal.enter-build-requires
-enter-build-requires t c =
-    let f = formula_of c.args.known.nodes.now c.args.operand in
-    let e = c.in_default.ensures in
-    (omega (arith, c.decreases), (c.requires.within, (c.requires.ready, known_other (kind f) (sym e))))
-
 pub enter-returns : goal.enter-returns
 enter-returns t c =
     remembered c.in_ok-number.ensures c.remember.ensures
@@ -123,52 +117,32 @@ enter-returns t c =
 
 pub equivalence-returns-in-Constant : goal.equivalence-returns-in-Constant
 equivalence-returns-in-Constant t c =
-    let ns = c.args.known.nodes.now in
-    let m = c.negated-not_p.result in
-    let n = c.negated-not_q.result in
-    let is = equivalence_is ns c.args.a c.args.b c.args.sign m n (operand_is m c.negated-not_p.ensures.node c.negated-not_p.ensures.sign)
-    (operand_is n c.negated-not_q.ensures.node c.negated-not_q.ensures.sign) in
     let p =
-    equivalence_plan ns (operand c.args.a true) (operand c.args.b c.args.sign) m n is c.constant.ensures c.constant-2.ensures
-    c.constant-3.ensures c.constant-4.ensures c.joint-both.ensures c.joint-neither.ensures c.in-Constant.ensures in
+    equivalence_plan c.args.known.nodes.now c.args.a c.args.b c.args.sign c.negated-not_p.ensures c.negated-not_q.ensures
+    c.constant.ensures c.constant-2.ensures c.constant-3.ensures c.constant-4.ensures c.joint-both.ensures c.joint-neither.ensures c.in-Constant.ensures in
     constant_stays c.in-Constant.x c.requires.ready p c.number_of.ensures
 
 pub equivalence-returns-in-First : goal.equivalence-returns-in-First
 equivalence-returns-in-First t c =
-    let ns = c.args.known.nodes.now in
-    let m = c.negated-not_p.result in
-    let n = c.negated-not_q.result in
-    let is = equivalence_is ns c.args.a c.args.b c.args.sign m n (operand_is m c.negated-not_p.ensures.node c.negated-not_p.ensures.sign)
-    (operand_is n c.negated-not_q.ensures.node c.negated-not_q.ensures.sign) in
     let p =
-    equivalence_plan ns (operand c.args.a true) (operand c.args.b c.args.sign) m n is c.constant.ensures c.constant-2.ensures
-    c.constant-3.ensures c.constant-4.ensures c.joint-both.ensures c.joint-neither.ensures c.in-First.ensures in
+    equivalence_plan c.args.known.nodes.now c.args.a c.args.b c.args.sign c.negated-not_p.ensures c.negated-not_q.ensures
+    c.constant.ensures c.constant-2.ensures c.constant-3.ensures c.constant-4.ensures c.joint-both.ensures c.joint-neither.ensures c.in-First.ensures in
     alike c.args.known.nodes.now _ _ _ _ p c.pair.ensures
 
 pub equivalence-returns-in-Second : goal.equivalence-returns-in-Second
 equivalence-returns-in-Second t c =
-    let ns = c.args.known.nodes.now in
-    let m = c.negated-not_p.result in
-    let n = c.negated-not_q.result in
-    let is = equivalence_is ns c.args.a c.args.b c.args.sign m n (operand_is m c.negated-not_p.ensures.node c.negated-not_p.ensures.sign)
-    (operand_is n c.negated-not_q.ensures.node c.negated-not_q.ensures.sign) in
     let p =
-    equivalence_plan ns (operand c.args.a true) (operand c.args.b c.args.sign) m n is c.constant.ensures c.constant-2.ensures
-    c.constant-3.ensures c.constant-4.ensures c.joint-both.ensures c.joint-neither.ensures c.in-Second.ensures in
+    equivalence_plan c.args.known.nodes.now c.args.a c.args.b c.args.sign c.negated-not_p.ensures c.negated-not_q.ensures
+    c.constant.ensures c.constant-2.ensures c.constant-3.ensures c.constant-4.ensures c.joint-both.ensures c.joint-neither.ensures c.in-Second.ensures in
     alike c.args.known.nodes.now _ _ _ _ p c.pair-in-Second.ensures
 
 pub equivalence-returns-in_err-left-in-Both : goal.equivalence-returns-in_err-left-in-Both
 equivalence-returns-in_err-left-in-Both t c =
     let f = both_of c.args.known.nodes.now c.args.a c.args.b c.args.sign in
     let g = junction And (formula_of c.args.known.nodes.now c.negated-not_p.result) (formula_of c.args.known.nodes.now c.negated-not_q.result) in
-    let ns = c.args.known.nodes.now in
-    let m = c.negated-not_p.result in
-    let n = c.negated-not_q.result in
-    let is = equivalence_is ns c.args.a c.args.b c.args.sign m n (operand_is m c.negated-not_p.ensures.node c.negated-not_p.ensures.sign)
-    (operand_is n c.negated-not_q.ensures.node c.negated-not_q.ensures.sign) in
     let p =
-    equivalence_plan ns (operand c.args.a true) (operand c.args.b c.args.sign) m n is c.constant.ensures c.constant-2.ensures
-    c.constant-3.ensures c.constant-4.ensures c.joint-both.ensures c.joint-neither.ensures c.in-Both.ensures in
+    equivalence_plan c.args.known.nodes.now c.args.a c.args.b c.args.sign c.negated-not_p.ensures c.negated-not_q.ensures
+    c.constant.ensures c.constant-2.ensures c.constant-3.ensures c.constant-4.ensures c.joint-both.ensures c.joint-neither.ensures c.in-Both.ensures in
     fails c.args.known.nodes.now c.pair-in-Both.new.slots c.args.self.now (equivalence_of c.args.known.nodes.now c.args.a c.args.b c.args.sign) c.pair-in-Both.new.self
     c.from_residual.ensures
     (first_over Or f g p (listed c.args.self.now) c.in_err-left-in-Both.ensures)
@@ -177,47 +151,29 @@ pub equivalence-returns-in_err-right-in-Both : goal.equivalence-returns-in_err-r
 equivalence-returns-in_err-right-in-Both t c =
     let f = both_of c.args.known.nodes.now c.args.a c.args.b c.args.sign in
     let g = junction And (formula_of c.args.known.nodes.now c.negated-not_p.result) (formula_of c.args.known.nodes.now c.negated-not_q.result) in
-    let ns = c.args.known.nodes.now in
-    let m = c.negated-not_p.result in
-    let n = c.negated-not_q.result in
-    let is = equivalence_is ns c.args.a c.args.b c.args.sign m n (operand_is m c.negated-not_p.ensures.node c.negated-not_p.ensures.sign)
-    (operand_is n c.negated-not_q.ensures.node c.negated-not_q.ensures.sign) in
     let p =
-    equivalence_plan ns (operand c.args.a true) (operand c.args.b c.args.sign) m n is c.constant.ensures c.constant-2.ensures
-    c.constant-3.ensures c.constant-4.ensures c.joint-both.ensures c.joint-neither.ensures c.in-Both.ensures in
+    equivalence_plan c.args.known.nodes.now c.args.a c.args.b c.args.sign c.negated-not_p.ensures c.negated-not_q.ensures
+    c.constant.ensures c.constant-2.ensures c.constant-3.ensures c.constant-4.ensures c.joint-both.ensures c.joint-neither.ensures c.in-Both.ensures in
     fails c.args.known.nodes.now c.pair-in-Both-2.new.slots c.args.self.now (equivalence_of c.args.known.nodes.now c.args.a c.args.b c.args.sign) c.pair-in-Both-2.new.self
     c.from_residual-in_err-right-in-Both.ensures (second_over Or f g p c.in_ok-left-in-Both.ensures c.in_err-right-in-Both.ensures)
 
-pub equivalence-add-requires : goal.equivalence-add-requires
-equivalence-add-requires t c =
+pub equivalence-add-requires-clause-parts : goal.equivalence-add-requires-clause-parts
+equivalence-add-requires-clause-parts t c =
     let f = both_of c.args.known.nodes.now c.args.a c.args.b c.args.sign in
     let g = junction And (formula_of c.args.known.nodes.now c.negated-not_p.result) (formula_of c.args.known.nodes.now c.negated-not_q.result) in
-    let ns = c.args.known.nodes.now in
-    let m = c.negated-not_p.result in
-    let n = c.negated-not_q.result in
-    let is = equivalence_is ns c.args.a c.args.b c.args.sign m n (operand_is m c.negated-not_p.ensures.node c.negated-not_p.ensures.sign)
-    (operand_is n c.negated-not_q.ensures.node c.negated-not_q.ensures.sign) in
     let p =
-    equivalence_plan ns (operand c.args.a true) (operand c.args.b c.args.sign) m n is c.constant.ensures c.constant-2.ensures
-    c.constant-3.ensures c.constant-4.ensures c.joint-both.ensures c.joint-neither.ensures c.in-Both.ensures in
-    record {
-      sound = c.in_ok-right-in-Both.ensures.ready.sound;
-      parts = both_below Or f g p c.requires.ready c.in_ok-left-in-Both.ensures c.in_ok-right-in-Both.ensures
-          c.joined.ensures;
-    }
+    equivalence_plan c.args.known.nodes.now c.args.a c.args.b c.args.sign c.negated-not_p.ensures c.negated-not_q.ensures
+    c.constant.ensures c.constant-2.ensures c.constant-3.ensures c.constant-4.ensures c.joint-both.ensures c.joint-neither.ensures c.in-Both.ensures in
+    both_below Or f g p c.requires.ready c.in_ok-left-in-Both.ensures c.in_ok-right-in-Both.ensures
+    c.joined.ensures
 
 pub equivalence-returns-in_ok-right-in-Both : goal.equivalence-returns-in_ok-right-in-Both
 equivalence-returns-in_ok-right-in-Both t c =
     let f = both_of c.args.known.nodes.now c.args.a c.args.b c.args.sign in
     let g = junction And (formula_of c.args.known.nodes.now c.negated-not_p.result) (formula_of c.args.known.nodes.now c.negated-not_q.result) in
-    let ns = c.args.known.nodes.now in
-    let m = c.negated-not_p.result in
-    let n = c.negated-not_q.result in
-    let is = equivalence_is ns c.args.a c.args.b c.args.sign m n (operand_is m c.negated-not_p.ensures.node c.negated-not_p.ensures.sign)
-    (operand_is n c.negated-not_q.ensures.node c.negated-not_q.ensures.sign) in
     let p =
-    equivalence_plan ns (operand c.args.a true) (operand c.args.b c.args.sign) m n is c.constant.ensures c.constant-2.ensures
-    c.constant-3.ensures c.constant-4.ensures c.joint-both.ensures c.joint-neither.ensures c.in-Both.ensures in
+    equivalence_plan c.args.known.nodes.now c.args.a c.args.b c.args.sign c.negated-not_p.ensures c.negated-not_q.ensures
+    c.constant.ensures c.constant-2.ensures c.constant-3.ensures c.constant-4.ensures c.joint-both.ensures c.joint-neither.ensures c.in-Both.ensures in
     both_enter Or f g p c.requires.ready c.in_ok-left-in-Both.ensures c.in_ok-right-in-Both.ensures c.joined.ensures
     _ _ c.add.result c.add.ensures
 
@@ -229,18 +185,6 @@ pair-returns-in-Constant t c =
     pair_plan c.args.known.nodes.now c.args.operator c.args.a c.args.b c.constant.ensures c.constant-2.ensures c.in-Constant.ensures in
     constant_stays c.in-Constant.x c.requires.ready p c.number_of.ensures
 
-pub pair-returns-in-First : goal.pair-returns-in-First
-pair-returns-in-First t c =
-    let p =
-    pair_plan c.args.known.nodes.now c.args.operator c.args.a c.args.b c.constant.ensures c.constant-2.ensures c.in-First.ensures in
-    alike c.args.known.nodes.now _ _ _ _ p c.enter.ensures
-
-pub pair-returns-in-Second : goal.pair-returns-in-Second
-pair-returns-in-Second t c =
-    let p =
-    pair_plan c.args.known.nodes.now c.args.operator c.args.a c.args.b c.constant.ensures c.constant-2.ensures c.in-Second.ensures in
-    alike c.args.known.nodes.now _ _ _ _ p c.enter-in-Second.ensures
-
 pub pair-returns-in_err-left-in-Both : goal.pair-returns-in_err-left-in-Both
 pair-returns-in_err-left-in-Both t c =
     let f = formula_of c.args.known.nodes.now c.args.a in
@@ -251,28 +195,14 @@ pair-returns-in_err-left-in-Both t c =
     c.enter-in-Both.new.self c.from_residual.ensures
     (first_over c.args.operator f g p (listed c.args.self.now) c.in_err-left-in-Both.ensures)
 
-pub pair-returns-in_err-right-in-Both : goal.pair-returns-in_err-right-in-Both
-pair-returns-in_err-right-in-Both t c =
+pub pair-add-requires-clause-parts : goal.pair-add-requires-clause-parts
+pair-add-requires-clause-parts t c =
     let f = formula_of c.args.known.nodes.now c.args.a in
     let g = formula_of c.args.known.nodes.now c.args.b in
     let p =
     pair_plan c.args.known.nodes.now c.args.operator c.args.a c.args.b c.constant.ensures c.constant-2.ensures c.in-Both.ensures in
-    fails c.args.known.nodes.now c.enter-in-Both-2.new.slots c.args.self.now (junction c.args.operator f g)
-    c.enter-in-Both-2.new.self
-    c.from_residual-in_err-right-in-Both.ensures
-    (second_over c.args.operator f g p c.in_ok-left-in-Both.ensures c.in_err-right-in-Both.ensures)
-
-pub pair-add-requires : goal.pair-add-requires
-pair-add-requires t c =
-    let f = formula_of c.args.known.nodes.now c.args.a in
-    let g = formula_of c.args.known.nodes.now c.args.b in
-    let p =
-    pair_plan c.args.known.nodes.now c.args.operator c.args.a c.args.b c.constant.ensures c.constant-2.ensures c.in-Both.ensures in
-    record {
-      sound = c.in_ok-right-in-Both.ensures.ready.sound;
-      parts = both_below c.args.operator f g p c.requires.ready c.in_ok-left-in-Both.ensures c.in_ok-right-in-Both.ensures
-          c.joined.ensures;
-    }
+    both_below c.args.operator f g p c.requires.ready c.in_ok-left-in-Both.ensures c.in_ok-right-in-Both.ensures
+    c.joined.ensures
 
 pub pair-returns-in_ok-right-in-Both : goal.pair-returns-in_ok-right-in-Both
 pair-returns-in_ok-right-in-Both t c =
@@ -291,7 +221,7 @@ unary-returns-in-Not t c =
     let ns = c.args.known.nodes.now in
     alike ns _ _ _ _
     (ap (λ p. unary_of ns p c.args.part) c.in-Not.is ∙ unary_not ns c.args.part
-    ∙ ap (formula_of ns) (sym (operand_is c.negated.result c.negated.ensures.node c.negated.ensures.sign)))
+    ∙ ap (formula_of ns) (sym (negation_is c.negated.ensures)))
     c.enter.ensures
 
 pub unary-returns-in_err-number-in-Next : goal.unary-returns-in_err-number-in-Next
@@ -315,10 +245,10 @@ unary-returns-in_ok-number-in-Next t c =
     c.requires.ready c.in_ok-number-in-Next.ensures is
     refl c.add.ensures
 
-pub unary-add-requires : goal.unary-add-requires
-unary-add-requires t c =
+pub unary-add-requires-clause-parts : goal.unary-add-requires-clause-parts
+unary-add-requires-clause-parts t c =
     let d = c.in_ok-number-in-Next.ensures in
-    record { sound = d.ready.sound; parts = number_below c.in_ok-number-in-Next.number d.ready.sound d.here }
+    number_below c.in_ok-number-in-Next.number d.ready.sound d.here
 
 pub unary-returns-in_err-number-in-Always : goal.unary-returns-in_err-number-in-Always
 unary-returns-in_err-number-in-Always t c =
@@ -348,17 +278,14 @@ unary-returns-in_ok-number-in-Always t c =
     (bounded_grow s n m c.in_ok-number-in-Always.number (listed c.enter-in-Always.new.self) c.bounded.ensures)
     c.add-in-Always.ensures
 
-pub unary-add-requires-in-Always : goal.unary-add-requires-in-Always
-unary-add-requires-in-Always t c =
+pub unary-add-requires-in-Always-clause-parts : goal.unary-add-requires-in-Always-clause-parts
+unary-add-requires-in-Always-clause-parts t c =
     let d = c.in_ok-number-in-Always.ensures in
     let s = c.args.part.sign in
     let n = c.in-Always.n in
     let m = c.in-Always.m in
-    record {
-      sound = d.ready.sound;
-      parts = bounded_below s n m c.in_ok-number-in-Always.number c.enter-in-Always.new.self.count c.bounded.ensures
-          (number_below c.in_ok-number-in-Always.number d.ready.sound d.here);
-    }
+    bounded_below s n m c.in_ok-number-in-Always.number c.enter-in-Always.new.self.count c.bounded.ensures
+    (number_below c.in_ok-number-in-Always.number d.ready.sound d.here)
 
 pub unary-returns-in_err-number-in-Eventually : goal.unary-returns-in_err-number-in-Eventually
 unary-returns-in_err-number-in-Eventually t c =
@@ -390,14 +317,11 @@ unary-returns-in_ok-number-in-Eventually t c =
     (bounded_grow s n m c.in_ok-number-in-Eventually.number (listed c.enter-in-Eventually.new.self)
     c.bounded-in-Eventually.ensures) c.add-in-Eventually.ensures
 
-pub unary-add-requires-in-Eventually : goal.unary-add-requires-in-Eventually
-unary-add-requires-in-Eventually t c =
+pub unary-add-requires-in-Eventually-clause-parts : goal.unary-add-requires-in-Eventually-clause-parts
+unary-add-requires-in-Eventually-clause-parts t c =
     let d = c.in_ok-number-in-Eventually.ensures in
     let s = not c.args.part.sign in
     let n = c.in-Eventually.n in
     let m = c.in-Eventually.m in
-    record {
-      sound = d.ready.sound;
-      parts = bounded_below s n m c.in_ok-number-in-Eventually.number c.enter-in-Eventually.new.self.count
-          c.bounded-in-Eventually.ensures (number_below c.in_ok-number-in-Eventually.number d.ready.sound d.here);
-    }
+    bounded_below s n m c.in_ok-number-in-Eventually.number c.enter-in-Eventually.new.self.count
+    c.bounded-in-Eventually.ensures (number_below c.in_ok-number-in-Eventually.number d.ready.sound d.here)
