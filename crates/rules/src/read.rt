@@ -15,6 +15,9 @@ use parser::parse;
 /// The number of the formula True, which the third part is.
 const TRUE: u16 = 1;
 
+/// How many slots an index of names or of formulas needs.
+const SLOTS: usize = 2048;
+
 /// Reads a text. The two arrays of slots, at least 2,048 each, are memory for an index of its names and for one of its formulas.
 pub fn read(
     text: &[u8],
@@ -26,7 +29,7 @@ pub fn read(
     ensures meaning { KeepsMeaning text.now (view_result result) }
     ensures game { StatesGame (view_result result) }
 {
-    if formulas.len() < 2048 {
+    if formulas.len() < SLOTS {
         return Err(Fault::Short(Buffer::Index));
     }
     let parsed = parse(text, names)?;
