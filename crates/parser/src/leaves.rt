@@ -41,7 +41,7 @@ impl Reader {
         }
     }
 
-    /// Adds a node behind the others, its parts; the text goes on at `next`.
+    /// Adds a node behind the others, among which its parts stand; the text goes on at `next`.
     pub(crate) fn push(&mut self, node: Node, next: usize) -> Part
         requires room { self.old.count < 1024 }
         requires below { parts_below self.old.count node ≡ true }

@@ -25,6 +25,7 @@ pub(crate) struct Cursor<'a> {
 }
 
 /// A formula that was read: the place of its node, and where the text goes on.
+/// It has a type of its own, as `Bound` has: a generic pair would be no plainer.
 #[derive(Clone, Copy)]
 pub(crate) struct Part {
     pub(crate) root: usize,
