@@ -11,7 +11,7 @@ ghost use Rattle.normal.specs.Normalized.{Leaves, Normalized};
 use builder::Builder;
 use constants::constants;
 use formulas::Formula;
-use index::{Key, Slot, clear};
+use index::{Key, Slot, clear, enough};
 use known::KnownNodes;
 use nodes::node::Node;
 use nodes::syntax::Syntax;
@@ -69,7 +69,7 @@ pub fn normalize(syntax: &Syntax, slots: &mut [Slot<Formula>]) -> Result<Formula
     ensures value { Normalized syntax.now (length slots.old) result }
     ensures slots { Leaves slots.old result slots.new }
 {
-    if slots.len() < 2048 {
+    if !enough(slots) {
         return Err(Refusal::Short);
     }
     clear(slots);

@@ -17,7 +17,7 @@ mod sections;
 pub mod table;
 
 use faults::{Buffer, Fault, Reason, TextFault};
-use index::{Slot, clear};
+use index::{Slot, clear, enough};
 use names::Name;
 use parsed::Parsed;
 use reader::Reader;
@@ -43,7 +43,7 @@ pub fn parse(text: &[u8], slots: &mut [Slot<Name>]) -> Result<Parsed, Fault>
     ensures value { Parses text.now (length slots.old) result }
     ensures slots { Freed slots.old slots.new }
 {
-    if slots.len() < 2048 {
+    if !enough(slots) {
         return Err(Fault::Short(Buffer::Index));
     }
     clear(slots);

@@ -7,16 +7,13 @@ ghost use Rattle.rules.specs.Shown.{view_result};
 use super::specification::Specification;
 use faults::{Buffer, Fault, Reason, TextFault};
 use formulas::Formula;
-use index::Slot;
+use index::{Slot, enough};
 use names::Name;
 use normal::normalize;
 use parser::parse;
 
 /// The number of the formula True, which the third part is.
 const TRUE: u16 = 1;
-
-/// How many slots an index of names or of formulas needs.
-const SLOTS: usize = 2048;
 
 /// Reads a text. The two arrays of slots, at least 2,048 each, are memory for an index of its names and for one of its formulas.
 pub fn read(
@@ -29,7 +26,7 @@ pub fn read(
     ensures meaning { KeepsMeaning text.now (view_result result) }
     ensures game { StatesGame (view_result result) }
 {
-    if formulas.len() < SLOTS {
+    if !enough(formulas) {
         return Err(Fault::Short(Buffer::Index));
     }
     let parsed = parse(text, names)?;

@@ -1,4 +1,5 @@
-use Rattle.std.proofs.Common.{length, subst, rules}
+use Rattle.std.proofs.Common.{◌∙◌, length, sym, subst, rules}
+use Rattle.std.proofs.lemmas.Bool.{leb-true}
 use Rattle.faults.specs.declared.Reason.TheVariants as reason
 use Rattle.faults.specs.declared.TextFault.{TextFault}
 use Rattle.normal.specs.Normalized.{Normalized}
@@ -8,13 +9,13 @@ use Rattle.rules.proofs.read.read.Goals as goal
 pub returns-in_err-parsed : goal.returns-in_err-parsed
 returns-in_err-parsed c =
     let p = handed_on _ _ _ _ c.from_residual.result c.from_residual.ensures.1
-    (parse_refused _ _ _ _ c.if-formulas-lt-SLOTS.false c.in_err-parsed.ensures.value) in
+    (parse_refused _ _ _ _ (leb-true 2048 _ (sym c.enough.ensures ∙ c.if-not-enough.false)) c.in_err-parsed.ensures.value) in
     record { value = p.value; derived = p.derived; meaning = p.meaning; game = p.game }
 
 pub returns-in_err-formulas : goal.returns-in_err-formulas
 returns-in_err-formulas c =
     let s = c.in_ok-parsed.parsed.syntax in
-    let room = c.if-formulas-lt-SLOTS.false in
+    let room = (leb-true 2048 _ (sym c.enough.ensures ∙ c.if-not-enough.false)) in
     let k = parsed _ _ _ c.in_ok-parsed.ensures.value in
     let f : TextFault = record { reason = reason.Formulas; place = length c.args.text.now } in
     let b = err_before _ c.normalize.result c.map_err.result _ f c.map_err.ensures.cases (λ e x h. search rules) c.in_err-formulas.was in
