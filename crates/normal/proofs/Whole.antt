@@ -158,23 +158,22 @@ module _ (ns : List Node) (p q : ℕ) (slots : List (Slot Formula)) (b : Builder
       }
 
 -- ── a text's list ──
-module _ (s : Syntax) (ns : List Node) (e : ns ≡ take s.count s.nodes) (slots : List (Slot Formula)) where
-  pub text_over : 256 < length (parts_for ns s.initial s.safety)
-      → 256 < length (parts_in s)
-  unfolding formula_of
-  text_over h =
-      subst (λ (ms : List Node). 256 < length (parts_for ms s.initial s.safety)) e h
+module _ (s : Syntax) (slots : List (Slot Formula)) where
+  -- the nodes of a text
+  abbrev nodes : List Node
+  nodes = take s.count s.nodes
 
-  pub text_listed : (f : Formulas) → Listed ns s.initial s.safety slots f → (length (parts_in s) ≤ 256) × Lists s f
+  text_over : 256 < length (parts_for nodes s.initial s.safety) → 256 < length (parts_in s)
   unfolding formula_of
-  text_listed f d =
-      let l : Listed (take s.count s.nodes) s.initial s.safety slots f =
-      subst (λ (ms : List Node). Listed ms s.initial s.safety slots f) e d in
-      (l.short, record { list = l.list; initial = l.initial; safety = l.safety; rest = l.rest })
+  text_over h = h
+
+  text_listed : (f : Formulas) → Listed nodes s.initial s.safety slots f → (length (parts_in s) ≤ 256) × Lists s f
+  unfolding formula_of
+  text_listed f d = (d.short, record { list = d.list; initial = d.initial; safety = d.safety; rest = d.rest })
 
   -- what the text's list is, by whether there is one
   pub text_answered : (n : ℕ) → 2048 ≤ n → (before : List (Slot Formula)) → length slots ≡ length before → (r : Option Formulas)
-      → ListedBy ns s.initial s.safety slots r
+      → ListedBy nodes s.initial s.safety slots r
       → Normalized s n (ok_or r TooMany) × Leaves before (ok_or r TooMany) slots
   text_answered n h before l None d = ((h, text_over d), l)
   text_answered n h before l (Some f) d = let t = text_listed f d in ((h, t.0, t.1), d.indexed)

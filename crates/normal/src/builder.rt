@@ -274,7 +274,8 @@ impl Builder {
         }
     }
 
-    /// Enters the disjunction of two conjunctions that an equivalence, or its negation, is.
+    /// Enters the disjunction of two conjunctions that an equivalence, or its negation, is. It has the match of `pair`, since its parts are
+    /// pairs: a trait of both kinds of parts would be no plainer, and its method would stand in this cycle of calls.
     #[cycle(binary_build_enter_equivalence_pair_unary)]
     fn equivalence(
         &mut self,

@@ -1,10 +1,9 @@
 //! From the nodes of a text to the list of its formulas in normal form.
 #![tactic(auto)]
 
-ghost use Rattle.std.specs.Prelude.{◌≡◌, ◌<◌, ◌≤◌, true, [], length};
+ghost use Rattle.std.specs.Prelude.{◌≡◌, ◌≤◌, [], length, take};
 ghost use Rattle.formulas.specs.Entries.{entry_code};
 ghost use Rattle.index.specs.Keyed.{Indexed};
-ghost use Rattle.nodes.specs.Trees.{ordered as in_order};
 ghost use Rattle.normal.specs.Building.{ListedBy};
 ghost use Rattle.normal.specs.Normalized.{Leaves, Normalized};
 
@@ -13,7 +12,6 @@ use constants::constants;
 use formulas::Formula;
 use index::{Key, Slot, clear, enough};
 use known::KnownNodes;
-use nodes::node::Node;
 use nodes::syntax::Syntax;
 use operand::Operand;
 use table::{Formulas, Refusal};
@@ -24,21 +22,13 @@ mod known;
 mod operand;
 pub mod table;
 
-/// The list of the formulas of two nodes, unless it has more than 256 entries.
-fn list_of(
-    nodes: &[Node],
-    initial: usize,
-    safety: usize,
-    slots: &mut [Slot<Formula>],
-) -> Option<Formulas>
-    requires few { length nodes.now ≤ 1024 }
-    requires ordered { in_order nodes.now ≡ true }
-    requires first { initial < length nodes.now }
-    requires second { safety < length nodes.now }
+/// The list of the formulas of a text in normal form, unless it has more than 256 entries.
+fn list_of(syntax: &Syntax, slots: &mut [Slot<Formula>]) -> Option<Formulas>
     requires clear { Indexed entry_code slots.old [] }
     requires room { 2048 ≤ length slots.old }
-    ensures { ListedBy nodes.now initial safety slots.new result }
+    ensures { ListedBy (take syntax.now.count syntax.now.nodes) syntax.now.initial syntax.now.safety slots.new result }
 {
+    let nodes = &syntax.nodes[0..syntax.count];
     let known = KnownNodes {
         nodes,
         constants: &constants(nodes),
@@ -48,7 +38,7 @@ fn list_of(
         known,
         slots,
         Operand {
-            node: initial,
+            node: syntax.initial,
             sign: true,
         },
     )?;
@@ -56,7 +46,7 @@ fn list_of(
         known,
         slots,
         Operand {
-            node: safety,
+            node: syntax.safety,
             sign: true,
         },
     )?;
@@ -73,15 +63,14 @@ pub fn normalize(syntax: &Syntax, slots: &mut [Slot<Formula>]) -> Result<Formula
         return Err(Refusal::Short);
     }
     clear(slots);
-    let nodes = &syntax.nodes[0..syntax.count];
-    list_of(nodes, syntax.initial, syntax.safety, slots).ok_or(Refusal::TooMany)
+    list_of(syntax, slots).ok_or(Refusal::TooMany)
 }
 
 #[cfg(test)]
 mod tests {
     use super::*;
     use index::Key;
-    use nodes::node::Connective;
+    use nodes::node::{Connective, Node};
     use std::test::Fail;
 
     /// `True`, and `p <-> q` with an environment variable p and a system variable q.

@@ -1,44 +1,38 @@
-use Rattle.std.proofs.Common.{Option, sym, subst}
+use Rattle.std.proofs.Common.{◌≡◌, ℕ, ◌-◌, ◌<◌, length, take, Option, sym, subst, arith}
 use Rattle.normal.specs.declared.table.Formulas.{Formulas}
-use Rattle.normal.specs.Building.{ListedBy}
+use Rattle.normal.specs.Building.{ListedBy, Listed, parts_for}
 use Rattle.normal.proofs.Whole.{initial_over, whole, whole_rooted, finished}
 use Rattle.normal.proofs.list_of.Goals as goal
 
-pub invariant_of-known : goal.invariant_of-known
-invariant_of-known c = record { given = record { few = c.requires.few; ordered = c.requires.ordered; known = c.constants.ensures } }
-
-pub enter-requires : goal.enter-requires
-enter-requires c = record {
-  within = c.requires.first;
-  ready = c.new-builder.ensures.ready c.args.nodes.now;
-}
+pub enter-requires-clause-ready : goal.enter-requires-clause-ready
+enter-requires-clause-ready c = c.new-builder.ensures.ready _
 
 pub returns-in_err-first : goal.returns-in_err-first
 returns-in_err-first c =
-    let ns = c.args.nodes.now in
-    subst (λ (r : Option Formulas). ListedBy ns c.args.initial c.args.safety c.enter.new.slots r)
-    (sym c.from_residual.ensures)
-    (initial_over c.args.nodes.now c.args.initial c.args.safety c.new-builder.new.slots c.new-builder.result
-    c.new-builder.ensures c.in_err-first.ensures)
+    let s = c.args.syntax.now in
+    let all : c.args.syntax.now.count - 0 ≡ c.args.syntax.now.count = omega arith in
+    subst (λ (r : Option Formulas). ListedBy (take s.count s.nodes) s.initial s.safety c.enter.new.slots r) (sym c.from_residual.ensures)
+    (subst (λ (n : ℕ). 256 < length (parts_for (take n s.nodes) s.initial s.safety)) all
+    (initial_over (take (s.count - 0) s.nodes) s.initial s.safety c.new-builder.new.slots c.new-builder.result c.new-builder.ensures
+    c.in_err-first.ensures))
 
-pub finish-requires : goal.finish-requires
-finish-requires c =
-    let w = whole c.args.nodes.now c.args.initial c.args.safety c.new-builder.new.slots c.new-builder.result
-    c.new-builder.ensures c.enter.new.slots c.enter.new.self
-    c.in_ok-first.first c.in_ok-first.ensures
+pub finish-requires-clause-rooted : goal.finish-requires-clause-rooted
+finish-requires-clause-rooted c =
+    let s = c.args.syntax.now in
+    let ns = take (s.count - 0) s.nodes in
+    let w = whole ns s.initial s.safety c.new-builder.new.slots c.new-builder.result
+    c.new-builder.ensures c.enter.new.slots c.enter.new.self c.in_ok-first.first c.in_ok-first.ensures
     c.enter-2.new.slots c.enter-2.new.self c.in_ok-second.second c.in_ok-second.ensures in
-    record {
-      few = (w.sound.few, w.sound.long);
-      ordered = w.sound.ordered;
-      rooted = whole_rooted c.args.nodes.now c.args.initial c.args.safety c.enter-2.new.slots c.enter-2.new.self
-          c.in_ok-first.first c.in_ok-second.second w;
-    }
+    whole_rooted ns s.initial s.safety c.enter-2.new.slots c.enter-2.new.self c.in_ok-first.first c.in_ok-second.second w
 
 pub returns : goal.returns
 returns c =
-    let w = whole c.args.nodes.now c.args.initial c.args.safety c.new-builder.new.slots c.new-builder.result
-    c.new-builder.ensures c.enter.new.slots c.enter.new.self
-    c.in_ok-first.first c.in_ok-first.ensures
+    let s = c.args.syntax.now in
+    let ns = take (s.count - 0) s.nodes in
+    let w = whole ns s.initial s.safety c.new-builder.new.slots c.new-builder.result
+    c.new-builder.ensures c.enter.new.slots c.enter.new.self c.in_ok-first.first c.in_ok-first.ensures
     c.enter-2.new.slots c.enter-2.new.self c.in_ok-second.second c.in_ok-second.ensures in
-    finished c.args.nodes.now c.args.initial c.args.safety c.enter-2.new.slots c.enter-2.new.self
-    c.in_ok-first.first c.in_ok-second.second w c.finish.result c.finish.ensures
+    let all : c.args.syntax.now.count - 0 ≡ c.args.syntax.now.count = omega arith in
+    subst (λ (n : ℕ). Listed (take n s.nodes) s.initial s.safety c.enter-2.new.slots c.finish.result) all
+    (finished ns s.initial s.safety c.enter-2.new.slots c.enter-2.new.self c.in_ok-first.first c.in_ok-second.second w c.finish.result
+    c.finish.ensures)

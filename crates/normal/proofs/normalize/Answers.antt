@@ -1,4 +1,4 @@
-use Rattle.std.proofs.Common.{◌≡◌, ℕ, ◌-◌, take, Result, sym, ap, ◌∙◌, subst, arith}
+use Rattle.std.proofs.Common.{Result, sym, ◌∙◌, subst, arith}
 use Rattle.std.proofs.lemmas.Bool.{leb-true}
 use Rattle.normal.specs.declared.table.Formulas.{Formulas}
 use Rattle.normal.specs.declared.table.Refusal.{Refusal}
@@ -9,9 +9,8 @@ use Rattle.normal.proofs.normalize.Goals as goal
 pub returns : goal.returns
 returns c =
     let s = c.args.syntax.now in
-    let all : c.args.syntax.now.count - 0 ≡ c.args.syntax.now.count = omega arith in
-    let d = text_answered s (take (s.count - 0) s.nodes) (ap (λ (n : ℕ). take n s.nodes) all) c.list_of.new.slots _ (leb-true 2048 _ (sym c.enough.ensures ∙ c.if-not-enough.false))
-    c.args.slots.now (omega arith) c.list_of.result c.list_of.ensures in
+    let d = text_answered s c.list_of.new.slots _ (leb-true 2048 _ (sym c.enough.ensures ∙ c.if-not-enough.false)) c.args.slots.now (omega arith)
+    c.list_of.result c.list_of.ensures in
     record {
       value = subst (Normalized s _) (sym c.ok_or.ensures.value) d.0;
       slots = subst (λ (r : Result Formulas Refusal). Leaves c.args.slots.now r c.list_of.new.slots) (sym c.ok_or.ensures.value) d.1;
