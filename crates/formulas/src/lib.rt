@@ -5,6 +5,8 @@ ghost use Rattle.std.specs.Prelude.{◌≡◌};
 ghost use Rattle.std.proofs.Common.{rules};
 ghost use Rattle.formulas.specs.Entries.{entry_code, mixed};
 
+pub mod junction;
+
 use index::Key;
 
 /// An entry names its parts by the numbers of earlier entries.

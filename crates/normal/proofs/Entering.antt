@@ -1,5 +1,5 @@
 -- What entering a formula does, from what its parts did.
-use Rattle.std.proofs.Common.{◌≡◌, ℕ, ◌<◌, ◌≤◌, Bool, true, false, ltb, List, length, get_or, Some, None, Option, sym, refl, ap, ◌∙◌, subst, inl, inr, arith}
+use Rattle.std.proofs.Common.{not, ◌≡◌, ℕ, ◌<◌, ◌≤◌, Bool, true, false, ltb, List, length, get_or, Some, None, Option, sym, refl, ap, ◌∙◌, subst, inl, inr, arith}
 use Rattle.std.specs.List.{slice_get}
 use Rattle.std.proofs.lemmas.Bool.{and_from, lt-ltb}
 use Rattle.temporal.specs.Formula.{Formula as Tree, bot, top, lit, constant}
@@ -12,11 +12,12 @@ use Rattle.formulas.proofs.Folds.{nth_within, nth_is, nth_more}
 use Rattle.index.specs.declared.Slot.{Slot}
 use Rattle.normal.specs.declared.builder.Builder.{Builder}
 use Rattle.normal.specs.declared.operand.Operand.{Operand}
-use Rattle.normal.specs.declared.constants.Operator.{Operator}
-use Rattle.normal.specs.declared.constants.Operator.TheVariants.{And, Or}
+use Rattle.formulas.specs.declared.junction.Junction.{Junction}
+use Rattle.formulas.specs.declared.junction.Junction.TheVariants.{And, Or}
 use Rattle.normal.specs.Building.{listed, Sound, Added, Adds, Remembers, Ready, Entered, Enters}
 use Rattle.normal.specs.Operands.{formula_of, operand}
-use Rattle.normal.specs.Building.{number_of, literal_of, bounded_of, joined_of}
+use Rattle.formulas.specs.Junctions.{entry_of_both, entry_over, under}
+use Rattle.normal.specs.Building.{number_of, literal_of}
 use Rattle.normal.proofs.Adding.{nth_in, listed_length}
 use Rattle.normal.proofs.Forms.{whole_of, bounded_tree}
 
@@ -119,19 +120,19 @@ module _ (T : Tree → Tree) (enters : (ys : List Tree) (f : Tree) → enter ys 
       (ap (enter (listed b)) t ∙ enters (listed b) f ∙ (λ j. put (sym d.list j) (sym t j))) a
 
 -- ── two parts ──
-enter_whole : (op : Operator) (ys : List Tree) (f g : Tree) → enter ys (whole_of op f g) ≡ put (enter (enter ys f) g) (whole_of op f g)
+enter_whole : (op : Junction) (ys : List Tree) (f g : Tree) → enter ys (whole_of op f g) ≡ put (enter (enter ys f) g) (whole_of op f g)
 enter_whole And ys f g = refl
 enter_whole Or ys f g = refl
 
-grow_joined : (op : Operator) (ys : List Tree) (l r : ℕ) → grow ys (joined_of op l r) ≡ whole_of op (get_or ys l bot) (get_or ys r bot)
+grow_joined : (op : Junction) (ys : List Tree) (l r : ℕ) → grow ys (entry_of_both op l r) ≡ whole_of op (get_or ys l bot) (get_or ys r bot)
 grow_joined And ys l r = refl
 grow_joined Or ys l r = refl
 
-joined_below : (op : Operator) (i l r : ℕ) → ltb l i ≡ true → ltb r i ≡ true → parts_below i (joined_of op l r) ≡ true
+joined_below : (op : Junction) (i l r : ℕ) → ltb l i ≡ true → ltb r i ≡ true → parts_below i (entry_of_both op l r) ≡ true
 joined_below And i l r p q = and_from (ltb l i) (ltb r i) p q
 joined_below Or i l r p q = and_from (ltb l i) (ltb r i) p q
 
-module _ (op : Operator) (f g : Tree) {w : Tree} (whole_is : w ≡ whole_of op f g) where
+module _ (op : Junction) (f g : Tree) {w : Tree} (whole_is : w ≡ whole_of op f g) where
   long : (ys : List Tree) → length (enter (enter ys f) g) ≤ length (enter ys w)
   long ys =
       let e : enter ys w ≡ put (enter (enter ys f) g) (whole_of op f g) = ap (enter ys) whole_is ∙ enter_whole op ys f g in
@@ -149,7 +150,7 @@ module _ (op : Operator) (f g : Tree) {w : Tree} (whole_is : w ≡ whole_of op f
       omega (arith, h, l, long (listed b))
 
   module _ {ns : List Node} {slots slots1 slots2 : List (Slot Formula)} {b b1 b2 : Builder} {l r : ℕ} {e : Formula} (p : Ready ns slots b)
-      (d1 : Entered ns slots1 b f b1 l) (d2 : Entered ns slots2 b1 g b2 r) (e_is : e ≡ joined_of op l r) where
+      (d1 : Entered ns slots1 b f b1 l) (d2 : Entered ns slots2 b1 g b2 r) (e_is : e ≡ entry_of_both op l r) where
     left_at : slice_get (listed b2) l ≡ Some f
     left_at = kept d2 l f d1.here
 
@@ -215,11 +216,16 @@ pub bounded_enter : (s : Bool) (n m : ℕ) (ys : List Tree) (f : Tree)
 bounded_enter true n m ys f = refl
 bounded_enter false n m ys f = refl
 
-pub bounded_grow : (s : Bool) (n m k : ℕ) (ys : List Tree) {e : Formula} → e ≡ bounded_of s n m k
+pub bounded_grow : (s : Bool) (n m k : ℕ) (ys : List Tree) {e : Formula} → e ≡ entry_over (under And s) n m k
     → grow ys e ≡ bounded_tree s n m (get_or ys k bot)
 bounded_grow true n m k ys d = ap (grow ys) d
 bounded_grow false n m k ys d = ap (grow ys) d
 
-pub bounded_below : (s : Bool) (n m k i : ℕ) {e : Formula} → e ≡ bounded_of s n m k → ltb k i ≡ true → parts_below i e ≡ true
+-- where a disjunction would stand under the sign, a conjunction would under the other
+pub under_not : (s : Bool) → under Or s ≡ under And (not s)
+under_not true = refl
+under_not false = refl
+
+pub bounded_below : (s : Bool) (n m k i : ℕ) {e : Formula} → e ≡ entry_over (under And s) n m k → ltb k i ≡ true → parts_below i e ≡ true
 bounded_below true n m k i d h = ap (parts_below i) d ∙ h
 bounded_below false n m k i d h = ap (parts_below i) d ∙ h

@@ -4,8 +4,8 @@ use Rattle.temporal.specs.Formula.{Formula, next, always, eventually}
 use Rattle.temporal.specs.Formula.{Kind, is_bot, is_top, other, kind, conjoin_by, disjoin_by, unless_constant}
 use Rattle.temporal.specs.Written.{Written, falsity, truth, variable, negation, later, throughout, within, normal}
 use Rattle.temporal.specs.Written.{conjunction, disjunction, implication, equivalence}
-use Rattle.normal.specs.declared.constants.Operator.{Operator}
-use Rattle.normal.specs.declared.constants.Operator.TheVariants.{And, Or}
+use Rattle.formulas.specs.declared.junction.Junction.{Junction}
+use Rattle.formulas.specs.declared.junction.Junction.TheVariants.{And, Or}
 use Rattle.normal.specs.Constants.{known, junction, opposite, joint}
 
 pub kind_unless : (k : Kind) (w : Formula) → kind w ≡ other → kind (unless_constant k w) ≡ k
@@ -13,7 +13,7 @@ kind_unless is_bot w e = refl
 kind_unless is_top w e = refl
 kind_unless other w e = e
 
-pub kind_junction : (op : Operator) (f g : Formula) → known (kind (junction op f g)) ≡ joint op (known (kind f)) (known (kind g))
+pub kind_junction : (op : Junction) (f g : Formula) → known (kind (junction op f g)) ≡ joint op (known (kind f)) (known (kind g))
 kind_junction And f g = go (kind f) (kind g) refl refl
   where
     go : (k l : Kind) → kind f ≡ k → kind g ≡ l → known (kind (conjoin_by k l f g)) ≡ joint And (known k) (known l)

@@ -13,11 +13,12 @@ use Rattle.nodes.specs.declared.node.Connective.{Connective}
 use Rattle.nodes.specs.declared.node.Connective.TheVariants as connective
 use Rattle.nodes.specs.Trees.{trees_of, grow, constant_of, parts_below}
 use Rattle.normal.specs.declared.operand.Operand.{Operand}
-use Rattle.normal.specs.declared.constants.Operator.{Operator}
-use Rattle.normal.specs.declared.constants.Operator.TheVariants.{And, Or}
+use Rattle.formulas.specs.declared.junction.Junction.{Junction}
+use Rattle.formulas.specs.declared.junction.Junction.TheVariants.{And, Or}
 use Rattle.normal.specs.declared.constants.Plan.{Plan}
 use Rattle.normal.specs.declared.constants.Plan.TheVariants.{Constant, First, Second, Both}
-use Rattle.normal.specs.Constants.{known, junction, opposite, plan_of, joint, constant_at, under}
+use Rattle.formulas.specs.Junctions.{under}
+use Rattle.normal.specs.Constants.{known, junction, opposite, plan_of, joint, constant_at}
 use Rattle.normal.specs.Operands.{Given, Negates, formula_of, operand, unary_of, binary_of, both_of, equivalence_of}
 use Rattle.normal.proofs.Folding.{kind_junction, kind_opposite}
 use Rattle.normal.proofs.Places.{parts_below_lem, unary_below, binary_below, tree_at_lem}
@@ -59,18 +60,18 @@ module _ {ns : List Node} {cs : List (Option Bool)} (given : Given ns cs) where
   signed_is o h = signed_by_lem o.sign o.node h
 
 -- ── conjunctions and disjunctions ──
-abbrev pub whole_of : Operator → Tree → Tree → Tree
+abbrev pub whole_of : Junction → Tree → Tree → Tree
 whole_of And f g = conj f g
 whole_of Or f g = disj f g
 
 -- what a plan says of a conjunction or disjunction w of f and g
-abbrev pub Says : Operator → Plan → Tree → Tree → Tree → Type 0
+abbrev pub Says : Junction → Plan → Tree → Tree → Tree → Type 0
 Says op (Constant x) w f g = w ≡ constant x
 Says op First w f g = w ≡ f
 Says op Second w f g = w ≡ g
 Says op Both w f g = w ≡ whole_of op f g
 
-pub plan_says : (op : Operator) (f g : Tree) → Says op (plan_of op (known (kind f)) (known (kind g))) (junction op f g) f g
+pub plan_says : (op : Junction) (f g : Tree) → Says op (plan_of op (known (kind f)) (known (kind g))) (junction op f g) f g
 plan_says And f g = go (kind f) (kind g)
   where
     go : (k l : Kind) → Says And (plan_of And (known k) (known l)) (conjoin_by k l f g) f g
@@ -89,7 +90,7 @@ plan_says Or f g = go (kind f) (kind g)
     go other other = refl
 
 module _ (ns : List Node) where
-  pub pair_plan : (op : Operator) (a b : Operand) {x y : Option Bool} {p : Plan}
+  pub pair_plan : (op : Junction) (a b : Operand) {x y : Option Bool} {p : Plan}
       → x ≡ known (kind (formula_of ns a)) → y ≡ known (kind (formula_of ns b)) → p ≡ plan_of op x y
       → Says op p (junction op (formula_of ns a) (formula_of ns b)) (formula_of ns a) (formula_of ns b)
   pair_plan op a b {x} {y} {p} ex ey ep =

@@ -12,7 +12,7 @@ use Rattle.nodes.specs.declared.node.Connective.{Connective}
 use Rattle.nodes.specs.declared.node.Connective.TheVariants as connective
 use Rattle.nodes.specs.Trees.{grow, apply, join, trees_of, parts_below, ordered_from, ordered}
 use Rattle.formulas.proofs.Folds.{Alike, built_at}
-use Rattle.normal.specs.declared.constants.Operator.TheVariants.{And, Or}
+use Rattle.formulas.specs.declared.junction.Junction.TheVariants.{And, Or}
 use Rattle.normal.specs.Constants.{known, junction, joint, under_prefix, under_connective, node_constant, constant_at}
 use Rattle.normal.proofs.Filled.{Filled, filled_at}
 use Rattle.normal.proofs.Folding.{kind_unless, kind_junction, kind_opposite}

@@ -14,8 +14,6 @@ use Rattle.index.specs.Keyed.{Indexed}
 use Rattle.normal.specs.declared.builder.Builder.{Builder}
 use Rattle.normal.specs.declared.operand.Operand.{Operand}
 use Rattle.normal.specs.declared.table.Formulas.{Formulas}
-use Rattle.normal.specs.declared.constants.Operator.{Operator}
-use Rattle.normal.specs.declared.constants.Operator.TheVariants.{And, Or}
 use Rattle.normal.specs.Operands.{formula_of, operand, place_of}
 
 -- ── the list ──
@@ -64,16 +62,6 @@ number_of false = 0
 abbrev pub literal_of : Bool → ℕ → Formula
 literal_of true v = entry.Variable v
 literal_of false v = entry.Negated v
-
--- G[n,m] (true) or F[n,m] (false) of entry a
-abbrev pub bounded_of : Bool → ℕ → ℕ → ℕ → Formula
-bounded_of true n m a = entry.Always n m a
-bounded_of false n m a = entry.Eventually n m a
-
--- the conjunction or disjunction of the entries a and b
-abbrev pub joined_of : Operator → ℕ → ℕ → Formula
-joined_of And a b = entry.And a b
-joined_of Or a b = entry.Or a b
 
 -- ── what is done ──
 -- the list begins with the constants, has the parts of what it has, and the memory is right

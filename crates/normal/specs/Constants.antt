@@ -9,8 +9,8 @@ use Rattle.nodes.specs.declared.node.Prefix.TheVariants as prefix
 use Rattle.nodes.specs.declared.node.Connective.{Connective}
 use Rattle.nodes.specs.declared.node.Connective.TheVariants as connective
 use Rattle.nodes.specs.Trees.{trees_of}
-use Rattle.normal.specs.declared.constants.Operator.{Operator}
-use Rattle.normal.specs.declared.constants.Operator.TheVariants.{And, Or}
+use Rattle.formulas.specs.declared.junction.Junction.{Junction}
+use Rattle.formulas.specs.declared.junction.Junction.TheVariants.{And, Or}
 use Rattle.normal.specs.declared.constants.Plan.{Plan}
 use Rattle.normal.specs.declared.constants.Plan.TheVariants.{Constant, First, Second, Both}
 
@@ -21,7 +21,7 @@ known is_top = Some true
 known other = None
 
 -- the conjunction or disjunction of two formulas, simplified
-abbrev pub junction : Operator → Formula → Formula → Formula
+abbrev pub junction : Junction → Formula → Formula → Formula
 junction And f g = conjoin f g
 junction Or f g = disjoin f g
 
@@ -29,15 +29,8 @@ abbrev pub opposite : Option Bool → Option Bool
 opposite (Some b) = Some (not b)
 opposite None = None
 
--- the operator of a conjunction or disjunction (true), or of its negation (false)
-abbrev pub under : Operator → Bool → Operator
-under And true = And
-under And false = Or
-under Or true = Or
-under Or false = And
-
 -- how to make a conjunction or disjunction whose parts are these constants, if any: it is a constant, or one part, or it needs both
-abbrev pub plan_of : Operator → Option Bool → Option Bool → Plan
+abbrev pub plan_of : Junction → Option Bool → Option Bool → Plan
 plan_of And (Some true) b = Second
 plan_of And (Some false) b = Constant false
 plan_of And None (Some true) = First
@@ -57,7 +50,7 @@ planned Second a b = b
 planned Both a b = None
 
 -- the constant that a conjunction or disjunction is, given those that its parts are
-abbrev pub joint : Operator → Option Bool → Option Bool → Option Bool
+abbrev pub joint : Junction → Option Bool → Option Bool → Option Bool
 joint op a b = planned (plan_of op a b) a b
 
 abbrev pub under_prefix : Prefix → Option Bool → Option Bool

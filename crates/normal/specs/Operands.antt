@@ -7,7 +7,7 @@ use Rattle.nodes.specs.declared.node.Prefix.{Prefix}
 use Rattle.nodes.specs.declared.node.Connective.{Connective}
 use Rattle.nodes.specs.Trees.{trees_of, apply, join, ordered as in_order}
 use Rattle.normal.specs.declared.operand.Operand.{Operand}
-use Rattle.normal.specs.declared.constants.Operator.TheVariants.{And, Or}
+use Rattle.formulas.specs.declared.junction.Junction.TheVariants.{And, Or}
 use Rattle.normal.specs.Constants.{Known, junction}
 
 -- the place of node i (true) or its negation (false) among all operands

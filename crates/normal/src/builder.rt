@@ -4,16 +4,17 @@ ghost use Rattle.temporal.specs.Formula.{kind, other};
 ghost use Rattle.formulas.specs.Entries.{entry_code};
 ghost use Rattle.formulas.specs.Trees.{ordered as in_order, parts_below};
 ghost use Rattle.index.specs.Keyed.{Indexed};
-ghost use Rattle.normal.specs.Constants.{junction};
+ghost use Rattle.normal.specs.Constants.{junction as joined_by};
 ghost use Rattle.normal.specs.Operands.{binary_of, equivalence_of, formula_of, unary_of};
 ghost use Rattle.normal.specs.Building.{Adds, Begun, Enters, Finished, Ready, Remembers, Sound, entries_of, recalled};
-ghost use Rattle.normal.specs.Building.{bounded_of, joined_of, literal_of, number_of};
+ghost use Rattle.normal.specs.Building.{literal_of, number_of};
 
-use super::constants::{Operator, Plan, joint, plan_for, read};
+use super::constants::{Plan, joint, plan_for, read};
 use super::known::KnownNodes;
 use super::operand::Operand;
 use super::table::Formulas;
 use formulas::Formula;
+use formulas::junction::Junction;
 use index::{Slot, find, insert};
 use nodes::node::{Connective, Node, Prefix};
 
@@ -41,27 +42,6 @@ fn literal(sign: bool, variable: u8) -> Formula
         Formula::Variable(variable)
     } else {
         Formula::Negated(variable)
-    }
-}
-
-/// G or F of a part.
-fn bounded(always: bool, n: u16, m: u16, part: u16) -> Formula
-    ensures { result ≡ bounded_of always n m part }
-{
-    if always {
-        Formula::Always(n, m, part)
-    } else {
-        Formula::Eventually(n, m, part)
-    }
-}
-
-/// The conjunction or disjunction of two parts.
-fn joined(operator: Operator, a: u16, b: u16) -> Formula
-    ensures { result ≡ joined_of operator a b }
-{
-    match operator {
-        Operator::And => Formula::And(a, b),
-        Operator::Or => Formula::Or(a, b),
     }
 }
 
@@ -206,11 +186,11 @@ impl Builder {
             }
             Prefix::Always(n, m) => {
                 let number = self.enter(known, slots, part)?;
-                self.add(slots, bounded(part.sign, n, m, number))
+                self.add(slots, Junction::And.under(part.sign).over(n, m, number))
             }
             Prefix::Eventually(n, m) => {
                 let number = self.enter(known, slots, part)?;
-                self.add(slots, bounded(!part.sign, n, m, number))
+                self.add(slots, Junction::Or.under(part.sign).over(n, m, number))
             }
         }
     }
@@ -236,10 +216,10 @@ impl Builder {
         let p = Operand { node: a, sign };
         let q = Operand { node: b, sign };
         match connective {
-            Connective::And => self.pair(known, slots, Operator::And.under(sign), p, q),
-            Connective::Or => self.pair(known, slots, Operator::Or.under(sign), p, q),
+            Connective::And => self.pair(known, slots, Junction::And.under(sign), p, q),
+            Connective::Or => self.pair(known, slots, Junction::Or.under(sign), p, q),
             Connective::Implies => {
-                self.pair(known, slots, Operator::Or.under(sign), p.negated(), q)
+                self.pair(known, slots, Junction::Or.under(sign), p.negated(), q)
             }
             Connective::Equivalent => self.equivalence(known, slots, a, b, sign),
         }
@@ -251,7 +231,7 @@ impl Builder {
         &mut self,
         known: KnownNodes<'_>,
         slots: &mut [Slot<Formula>],
-        operator: Operator,
+        junction: Junction,
         a: Operand,
         b: Operand,
     ) -> Option<u16>
@@ -259,17 +239,17 @@ impl Builder {
         requires second { b.node < length known.nodes.now }
         requires ready { Ready known.nodes.now slots.old self.old }
         ensures { Enters known.entry.nodes.now slots.new self.old
-            (junction operator (formula_of known.entry.nodes.now a) (formula_of known.entry.nodes.now b))
+            (joined_by junction (formula_of known.entry.nodes.now a) (formula_of known.entry.nodes.now b))
             self.new result }
     {
-        match plan_for(operator, known.constant(a), known.constant(b)) {
+        match plan_for(junction, known.constant(a), known.constant(b)) {
             Plan::Constant(x) => Some(number_of(x)),
             Plan::First => self.enter(known, slots, a),
             Plan::Second => self.enter(known, slots, b),
             Plan::Both => {
                 let left = self.enter(known, slots, a)?;
                 let right = self.enter(known, slots, b)?;
-                self.add(slots, joined(operator, left, right))
+                self.add(slots, junction.of_both(left, right))
             }
         }
     }
@@ -299,16 +279,16 @@ impl Builder {
         let q = Operand { node: b, sign };
         let not_p = p.negated();
         let not_q = q.negated();
-        let both = joint(Operator::And, known.constant(p), known.constant(q));
-        let neither = joint(Operator::And, known.constant(not_p), known.constant(not_q));
-        match plan_for(Operator::Or, both, neither) {
+        let both = joint(Junction::And, known.constant(p), known.constant(q));
+        let neither = joint(Junction::And, known.constant(not_p), known.constant(not_q));
+        match plan_for(Junction::Or, both, neither) {
             Plan::Constant(x) => Some(number_of(x)),
-            Plan::First => self.pair(known, slots, Operator::And, p, q),
-            Plan::Second => self.pair(known, slots, Operator::And, not_p, not_q),
+            Plan::First => self.pair(known, slots, Junction::And, p, q),
+            Plan::Second => self.pair(known, slots, Junction::And, not_p, not_q),
             Plan::Both => {
-                let left = self.pair(known, slots, Operator::And, p, q)?;
-                let right = self.pair(known, slots, Operator::And, not_p, not_q)?;
-                self.add(slots, joined(Operator::Or, left, right))
+                let left = self.pair(known, slots, Junction::And, p, q)?;
+                let right = self.pair(known, slots, Junction::And, not_p, not_q)?;
+                self.add(slots, Junction::Or.of_both(left, right))
             }
         }
     }

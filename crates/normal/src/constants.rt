@@ -1,29 +1,11 @@
 //! Which nodes have a constant as their normal form.
 ghost use Rattle.std.specs.Prelude.{◌≡◌, ◌≤◌, true, length, None, slice_index_or};
 ghost use Rattle.nodes.specs.Trees.{ordered as in_order};
-ghost use Rattle.normal.specs.Constants.{Known, joint as joint_of, node_constant, opposite as opposite_of, plan_of, under};
+ghost use Rattle.normal.specs.Constants.{Known, joint as joint_of, node_constant, opposite as opposite_of, plan_of};
 ghost use Rattle.normal.specs.Constants.{under_connective, under_prefix};
 
+use formulas::junction::Junction;
 use nodes::node::{Connective, Node, Prefix};
-
-/// A conjunction or a disjunction.
-#[derive(Clone, Copy)]
-pub enum Operator {
-    And,
-    Or,
-}
-
-impl Operator {
-    /// The operator itself, or where the sign is `false` the one that its negation has.
-    pub(crate) fn under(self, sign: bool) -> Operator
-        ensures { result ≡ under self sign }
-    {
-        match (self, sign) {
-            (Operator::And, true) | (Operator::Or, false) => Operator::And,
-            (Operator::Or, true) | (Operator::And, false) => Operator::Or,
-        }
-    }
-}
 
 /// A conjunction or disjunction is a constant, or one of its parts where the other is a constant, or it needs both parts.
 #[derive(Clone, Copy)]
@@ -49,28 +31,28 @@ pub fn opposite(a: Option<bool>) -> Option<bool>
 }
 
 /// How to make a conjunction or disjunction, given the constants that its parts are.
-pub fn plan_for(operator: Operator, a: Option<bool>, b: Option<bool>) -> Plan
-    ensures { result ≡ plan_of operator a b }
+pub fn plan_for(junction: Junction, a: Option<bool>, b: Option<bool>) -> Plan
+    ensures { result ≡ plan_of junction a b }
 {
-    match (operator, a, b) {
-        (Operator::And, Some(true), _) => Plan::Second,
-        (Operator::And, Some(false), _) => Plan::Constant(false),
-        (Operator::And, None, Some(true)) => Plan::First,
-        (Operator::And, None, Some(false)) => Plan::Constant(false),
-        (Operator::And, None, None) => Plan::Both,
-        (Operator::Or, Some(false), _) => Plan::Second,
-        (Operator::Or, Some(true), _) => Plan::Constant(true),
-        (Operator::Or, None, Some(false)) => Plan::First,
-        (Operator::Or, None, Some(true)) => Plan::Constant(true),
-        (Operator::Or, None, None) => Plan::Both,
+    match (junction, a, b) {
+        (Junction::And, Some(true), _) => Plan::Second,
+        (Junction::And, Some(false), _) => Plan::Constant(false),
+        (Junction::And, None, Some(true)) => Plan::First,
+        (Junction::And, None, Some(false)) => Plan::Constant(false),
+        (Junction::And, None, None) => Plan::Both,
+        (Junction::Or, Some(false), _) => Plan::Second,
+        (Junction::Or, Some(true), _) => Plan::Constant(true),
+        (Junction::Or, None, Some(false)) => Plan::First,
+        (Junction::Or, None, Some(true)) => Plan::Constant(true),
+        (Junction::Or, None, None) => Plan::Both,
     }
 }
 
 /// The constant that a conjunction or disjunction is, given the constants that its parts are.
-pub fn joint(operator: Operator, a: Option<bool>, b: Option<bool>) -> Option<bool>
-    ensures { result ≡ joint_of operator a b }
+pub fn joint(junction: Junction, a: Option<bool>, b: Option<bool>) -> Option<bool>
+    ensures { result ≡ joint_of junction a b }
 {
-    match plan_for(operator, a, b) {
+    match plan_for(junction, a, b) {
         Plan::Constant(x) => Some(x),
         Plan::First => a,
         Plan::Second => b,
@@ -93,13 +75,13 @@ fn under_connective(connective: Connective, a: Option<bool>, b: Option<bool>) ->
     ensures { result ≡ under_connective connective a b }
 {
     match connective {
-        Connective::And => joint(Operator::And, a, b),
-        Connective::Or => joint(Operator::Or, a, b),
-        Connective::Implies => joint(Operator::Or, opposite(a), b),
+        Connective::And => joint(Junction::And, a, b),
+        Connective::Or => joint(Junction::Or, a, b),
+        Connective::Implies => joint(Junction::Or, opposite(a), b),
         Connective::Equivalent => {
-            let both = joint(Operator::And, a, b);
-            let neither = joint(Operator::And, opposite(a), opposite(b));
-            joint(Operator::Or, both, neither)
+            let both = joint(Junction::And, a, b);
+            let neither = joint(Junction::And, opposite(a), opposite(b));
+            joint(Junction::Or, both, neither)
         }
     }
 }

@@ -18,9 +18,9 @@ use Rattle.records.specs.Kinds.{recorded}
 use Rattle.records.specs.Raw.{entry_of}
 use Rattle.rested.specs.declared.key.FormulaKey.{FormulaKey}
 use Rattle.records.specs.Table.{entry_at, formulas_of, formula_of}
-use Rattle.rested.specs.declared.junction.Junction.{Junction}
-use Rattle.rested.specs.declared.junction.Junction.TheVariants.{And, Or}
-use Rattle.rested.specs.Junctions.{join_of, range_of, absorbing_of, neutral_of, entry_of_both, entry_over}
+use Rattle.formulas.specs.declared.junction.Junction.{Junction}
+use Rattle.formulas.specs.declared.junction.Junction.TheVariants.{And, Or}
+use Rattle.formulas.specs.Junctions.{join_of, range_of, absorbing_of, neutral_of, entry_of_both, entry_over}
 use Rattle.rested.specs.Listing.{InForm, key_of}
 use Rattle.rested.specs.Rests.{Placed, Rested}
 use Rattle.rested.proofs.Trees.{trees_long, tree_bot, tree_top, tree_plain, tree_built, tree_read, trees_differ}

@@ -6,9 +6,9 @@ use Rattle.index.specs.declared.Slot.{Slot}
 use Rattle.records.specs.declared.FormulaRecord.{FormulaRecord}
 use Rattle.rested.specs.declared.key.FormulaKey.{FormulaKey}
 use Rattle.records.specs.Table.{formulas_of}
-use Rattle.rested.specs.declared.junction.Junction.{Junction}
-use Rattle.rested.specs.declared.junction.Junction.TheVariants.{And, Or}
-use Rattle.rested.specs.Junctions.{join_of, range_of}
+use Rattle.formulas.specs.declared.junction.Junction.{Junction}
+use Rattle.formulas.specs.declared.junction.Junction.TheVariants.{And, Or}
+use Rattle.formulas.specs.Junctions.{join_of, range_of}
 use Rattle.rested.specs.Listing.{Ready}
 use Rattle.rested.specs.Rests.{Placed, Rested}
 use Rattle.rested.specs.Steps.{JoinedBoth}

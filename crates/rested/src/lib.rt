@@ -1,7 +1,6 @@
 // The rests of a card's formulas after a move, in one ascending pass over the card's list.
 #![tactic(auto)]
 
-mod junction;
 pub mod key;
 pub mod reading;
 pub mod rest;

@@ -1,14 +1,14 @@
 // The rest of each formula of a list, by one reading.
 ghost use Rattle.std.specs.Prelude.{◌≡◌, ℕ, ◌≤◌, length, None, slice_index_or};
-ghost use Rattle.rested.specs.Junctions.{join_of, range_of};
+ghost use Rattle.formulas.specs.Junctions.{join_of, range_of};
 ghost use Rattle.rested.specs.Listing.{Ready};
 ghost use Rattle.rested.specs.Rests.{AllRested, OneAnswer};
 ghost use Rattle.rested.specs.Steps.{Joined, JoinedBoth, Listed, RestOfEntry, RestOfNext, RestOfRange};
 
-use crate::junction::Junction;
 use crate::key::FormulaKey;
 use crate::reading::Reading;
 use formulas::Formula;
+use formulas::junction::Junction;
 use index::{Slot, find};
 use records::FormulaRecord;
 

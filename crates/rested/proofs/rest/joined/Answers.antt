@@ -2,7 +2,7 @@ use Rattle.std.proofs.Common.{◌∙◌, ap, subst, Some, ℕ, sym, inl, inr}
 use Rattle.records.specs.declared.FormulaRecord.{FormulaRecord}
 use Rattle.records.specs.Kinds.{recorded}
 use Rattle.records.specs.Table.{formulas_of, formula_of}
-use Rattle.rested.specs.Junctions.{join_of}
+use Rattle.formulas.specs.Junctions.{join_of}
 use Rattle.rested.specs.Rests.{Placed}
 use Rattle.rested.specs.Steps.{Listed}
 use Rattle.rested.proofs.Found.{joined_absorbing, joined_first_neutral, joined_second_neutral, joined_found}

@@ -1,7 +1,7 @@
 use Rattle.std.proofs.Common.{ℕ, true, false, Some, Option, sym, subst, arith}
 use Rattle.formulas.specs.declared.Formula.TheVariants as entry
 use Rattle.records.specs.Table.{formulas_of, formula_of}
-use Rattle.rested.specs.declared.junction.Junction.TheVariants.{And, Or}
+use Rattle.formulas.specs.declared.junction.Junction.TheVariants.{And, Or}
 use Rattle.rested.specs.Rests.{Rested}
 use Rattle.rested.proofs.Steps.{pair_on}
 use Rattle.rested.proofs.Entries.{rested_named, rested_bot, rested_top, rested_literal}

@@ -2,7 +2,7 @@ use Rattle.std.proofs.Common.{◌≡◌, ◌-◌, ◌∙◌, ap, subst, arith}
 use Rattle.records.specs.declared.FormulaRecord.{FormulaRecord}
 use Rattle.records.specs.Kinds.{recorded}
 use Rattle.records.specs.Table.{formulas_of, formula_of}
-use Rattle.rested.specs.Junctions.{join_of, range_of, entry_over}
+use Rattle.formulas.specs.Junctions.{join_of, range_of, entry_over}
 use Rattle.rested.specs.Steps.{Listed}
 use Rattle.rested.proofs.Found.{over_placed}
 use Rattle.rested.proofs.Steps.{ranged, range_later, range_on}

@@ -2,7 +2,7 @@ use Rattle.std.proofs.Common.{◌≡◌, not, sym, refl, ap, ◌∙◌, arith}
 use Rattle.temporal.specs.Formula.{next, kind, other}
 use Rattle.nodes.specs.declared.node.Prefix.TheVariants as prefix
 use Rattle.formulas.specs.declared.Formula.TheVariants.{Next}
-use Rattle.normal.specs.declared.constants.Operator.TheVariants.{And, Or}
+use Rattle.formulas.specs.declared.junction.Junction.TheVariants.{And, Or}
 use Rattle.normal.specs.Constants.{junction}
 use Rattle.normal.specs.Operands.{formula_of, operand, unary_of, binary_of, both_of, equivalence_of}
 use Rattle.normal.specs.Building.{listed}
@@ -10,8 +10,9 @@ use Rattle.normal.proofs.Forms.{bounded_tree, known_constant, negation_is, pair_
 use Rattle.normal.proofs.Forms.{node_constant_lem, node_variable, node_unary, node_binary}
 use Rattle.normal.proofs.Forms.{unary_not, unary_next, unary_always, unary_eventually}
 use Rattle.normal.proofs.Forms.{binary_and, binary_or, binary_implies, binary_equivalent}
+use Rattle.formulas.specs.Junctions.{entry_over}
 use Rattle.normal.proofs.Entering.{stays, constant_stays, alike, fails, literal_enters, one_over, one_enters, number_below}
-use Rattle.normal.proofs.Entering.{bounded_enter, bounded_grow, bounded_below, first_over, second_over, both_below, both_enter, remembered}
+use Rattle.normal.proofs.Entering.{bounded_enter, bounded_grow, bounded_below, under_not, first_over, second_over, both_below, both_enter, remembered}
 use Rattle.normal.proofs.builder.Builder.+binary_build_enter_equivalence_pair_unary.Goals as goal
 
 -- ── binary ──
@@ -165,7 +166,7 @@ equivalence-add-requires-clause-parts t c =
     equivalence_plan c.args.known.nodes.now c.args.a c.args.b c.args.sign c.negated-not_p.ensures c.negated-not_q.ensures
     c.constant.ensures c.constant-2.ensures c.constant-3.ensures c.constant-4.ensures c.joint-both.ensures c.joint-neither.ensures c.in-Both.ensures in
     both_below Or f g p c.requires.ready c.in_ok-left-in-Both.ensures c.in_ok-right-in-Both.ensures
-    c.joined.ensures
+    c.of_both.ensures
 
 pub equivalence-returns-in_ok-right-in-Both : goal.equivalence-returns-in_ok-right-in-Both
 equivalence-returns-in_ok-right-in-Both t c =
@@ -174,7 +175,7 @@ equivalence-returns-in_ok-right-in-Both t c =
     let p =
     equivalence_plan c.args.known.nodes.now c.args.a c.args.b c.args.sign c.negated-not_p.ensures c.negated-not_q.ensures
     c.constant.ensures c.constant-2.ensures c.constant-3.ensures c.constant-4.ensures c.joint-both.ensures c.joint-neither.ensures c.in-Both.ensures in
-    both_enter Or f g p c.requires.ready c.in_ok-left-in-Both.ensures c.in_ok-right-in-Both.ensures c.joined.ensures
+    both_enter Or f g p c.requires.ready c.in_ok-left-in-Both.ensures c.in_ok-right-in-Both.ensures c.of_both.ensures
     _ _ c.add.result c.add.ensures
 
 -- ── pair ──
@@ -182,7 +183,7 @@ equivalence-returns-in_ok-right-in-Both t c =
 pub pair-returns-in-Constant : goal.pair-returns-in-Constant
 pair-returns-in-Constant t c =
     let p =
-    pair_plan c.args.known.nodes.now c.args.operator c.args.a c.args.b c.constant.ensures c.constant-2.ensures c.in-Constant.ensures in
+    pair_plan c.args.known.nodes.now c.args.junction c.args.a c.args.b c.constant.ensures c.constant-2.ensures c.in-Constant.ensures in
     constant_stays c.in-Constant.x c.requires.ready p c.number_of.ensures
 
 pub pair-returns-in_err-left-in-Both : goal.pair-returns-in_err-left-in-Both
@@ -190,28 +191,28 @@ pair-returns-in_err-left-in-Both t c =
     let f = formula_of c.args.known.nodes.now c.args.a in
     let g = formula_of c.args.known.nodes.now c.args.b in
     let p =
-    pair_plan c.args.known.nodes.now c.args.operator c.args.a c.args.b c.constant.ensures c.constant-2.ensures c.in-Both.ensures in
-    fails c.args.known.nodes.now c.enter-in-Both.new.slots c.args.self.now (junction c.args.operator f g)
+    pair_plan c.args.known.nodes.now c.args.junction c.args.a c.args.b c.constant.ensures c.constant-2.ensures c.in-Both.ensures in
+    fails c.args.known.nodes.now c.enter-in-Both.new.slots c.args.self.now (junction c.args.junction f g)
     c.enter-in-Both.new.self c.from_residual.ensures
-    (first_over c.args.operator f g p (listed c.args.self.now) c.in_err-left-in-Both.ensures)
+    (first_over c.args.junction f g p (listed c.args.self.now) c.in_err-left-in-Both.ensures)
 
 pub pair-add-requires-clause-parts : goal.pair-add-requires-clause-parts
 pair-add-requires-clause-parts t c =
     let f = formula_of c.args.known.nodes.now c.args.a in
     let g = formula_of c.args.known.nodes.now c.args.b in
     let p =
-    pair_plan c.args.known.nodes.now c.args.operator c.args.a c.args.b c.constant.ensures c.constant-2.ensures c.in-Both.ensures in
-    both_below c.args.operator f g p c.requires.ready c.in_ok-left-in-Both.ensures c.in_ok-right-in-Both.ensures
-    c.joined.ensures
+    pair_plan c.args.known.nodes.now c.args.junction c.args.a c.args.b c.constant.ensures c.constant-2.ensures c.in-Both.ensures in
+    both_below c.args.junction f g p c.requires.ready c.in_ok-left-in-Both.ensures c.in_ok-right-in-Both.ensures
+    c.of_both.ensures
 
 pub pair-returns-in_ok-right-in-Both : goal.pair-returns-in_ok-right-in-Both
 pair-returns-in_ok-right-in-Both t c =
     let f = formula_of c.args.known.nodes.now c.args.a in
     let g = formula_of c.args.known.nodes.now c.args.b in
     let p =
-    pair_plan c.args.known.nodes.now c.args.operator c.args.a c.args.b c.constant.ensures c.constant-2.ensures c.in-Both.ensures in
-    both_enter c.args.operator f g p c.requires.ready c.in_ok-left-in-Both.ensures c.in_ok-right-in-Both.ensures
-    c.joined.ensures
+    pair_plan c.args.known.nodes.now c.args.junction c.args.a c.args.b c.constant.ensures c.constant-2.ensures c.in-Both.ensures in
+    both_enter c.args.junction f g p c.requires.ready c.in_ok-left-in-Both.ensures c.in_ok-right-in-Both.ensures
+    c.of_both.ensures
     _ _ c.add.result c.add.ensures
 
 -- ── unary ──
@@ -273,9 +274,9 @@ unary-returns-in_ok-number-in-Always t c =
     let varies : kind (unary_of c.args.known.nodes.now (prefix.Always c.in-Always.n c.in-Always.m) c.args.part) ≡ other =
     ap (λ p. kind (unary_of c.args.known.nodes.now p c.args.part)) (sym c.in-Always.is) ∙ c.requires.varies in
     let is = ap (λ p. unary_of ns p c.args.part) c.in-Always.is ∙ unary_always ns c.args.part n m varies in
-    one_enters (bounded_tree s n m) (bounded_enter s n m) _ _ c.bounded.result c.add-in-Always.result c.requires.ready
+    one_enters (bounded_tree s n m) (bounded_enter s n m) _ _ c.over.result c.add-in-Always.result c.requires.ready
     c.in_ok-number-in-Always.ensures is
-    (bounded_grow s n m c.in_ok-number-in-Always.number (listed c.enter-in-Always.new.self) c.bounded.ensures)
+    (bounded_grow s n m c.in_ok-number-in-Always.number (listed c.enter-in-Always.new.self) (c.over.ensures ∙ ap (λ j. entry_over j n m c.in_ok-number-in-Always.number) c.under.ensures))
     c.add-in-Always.ensures
 
 pub unary-add-requires-in-Always-clause-parts : goal.unary-add-requires-in-Always-clause-parts
@@ -284,7 +285,7 @@ unary-add-requires-in-Always-clause-parts t c =
     let s = c.args.part.sign in
     let n = c.in-Always.n in
     let m = c.in-Always.m in
-    bounded_below s n m c.in_ok-number-in-Always.number c.enter-in-Always.new.self.count c.bounded.ensures
+    bounded_below s n m c.in_ok-number-in-Always.number c.enter-in-Always.new.self.count (c.over.ensures ∙ ap (λ j. entry_over j n m c.in_ok-number-in-Always.number) c.under.ensures)
     (number_below c.in_ok-number-in-Always.number d.ready.sound d.here)
 
 pub unary-returns-in_err-number-in-Eventually : goal.unary-returns-in_err-number-in-Eventually
@@ -312,10 +313,11 @@ unary-returns-in_ok-number-in-Eventually t c =
     (unary_of c.args.known.nodes.now (prefix.Eventually c.in-Eventually.n c.in-Eventually.m) c.args.part) ≡ other =
     ap (λ p. kind (unary_of c.args.known.nodes.now p c.args.part)) (sym c.in-Eventually.is) ∙ c.requires.varies in
     let is = ap (λ p. unary_of ns p c.args.part) c.in-Eventually.is ∙ unary_eventually ns c.args.part n m varies in
-    one_enters (bounded_tree s n m) (bounded_enter s n m) _ _ c.bounded-in-Eventually.result c.add-in-Eventually.result
+    one_enters (bounded_tree s n m) (bounded_enter s n m) _ _ c.over-in-Eventually.result c.add-in-Eventually.result
     c.requires.ready c.in_ok-number-in-Eventually.ensures is
     (bounded_grow s n m c.in_ok-number-in-Eventually.number (listed c.enter-in-Eventually.new.self)
-    c.bounded-in-Eventually.ensures) c.add-in-Eventually.ensures
+    (c.over-in-Eventually.ensures
+    ∙ ap (λ j. entry_over j n m c.in_ok-number-in-Eventually.number) (c.under-in-Eventually.ensures ∙ under_not c.args.part.sign))) c.add-in-Eventually.ensures
 
 pub unary-add-requires-in-Eventually-clause-parts : goal.unary-add-requires-in-Eventually-clause-parts
 unary-add-requires-in-Eventually-clause-parts t c =
@@ -324,4 +326,5 @@ unary-add-requires-in-Eventually-clause-parts t c =
     let n = c.in-Eventually.n in
     let m = c.in-Eventually.m in
     bounded_below s n m c.in_ok-number-in-Eventually.number c.enter-in-Eventually.new.self.count
-    c.bounded-in-Eventually.ensures (number_below c.in_ok-number-in-Eventually.number d.ready.sound d.here)
+    (c.over-in-Eventually.ensures
+    ∙ ap (λ j. entry_over j n m c.in_ok-number-in-Eventually.number) (c.under-in-Eventually.ensures ∙ under_not c.args.part.sign)) (number_below c.in_ok-number-in-Eventually.number d.ready.sound d.here)

@@ -1,10 +1,10 @@
 -- Conjunction and disjunction, and the same over a range of steps: G and F.
-use Rattle.std.specs.Prelude.{ℕ}
+use Rattle.std.specs.Prelude.{ℕ, Bool, true, false}
 use Rattle.temporal.specs.Formula.{Formula as Tree, conjoin, disjoin, always, eventually}
 use Rattle.formulas.specs.declared.Formula.{Formula}
 use Rattle.formulas.specs.declared.Formula.TheVariants as entry
-use Rattle.rested.specs.declared.junction.Junction.{Junction}
-use Rattle.rested.specs.declared.junction.Junction.TheVariants.{And, Or}
+use Rattle.formulas.specs.declared.junction.Junction.{Junction}
+use Rattle.formulas.specs.declared.junction.Junction.TheVariants.{And, Or}
 
 -- two formulas joined, and one formula joined over the steps from n to m
 abbrev pub join_of : Junction → Tree → Tree → Tree
@@ -32,3 +32,10 @@ entry_of_both Or a b = entry.Or a b
 abbrev pub entry_over : Junction → ℕ → ℕ → ℕ → Formula
 entry_over And n m a = entry.Always n m a
 entry_over Or n m a = entry.Eventually n m a
+
+-- the operator of a conjunction or disjunction (true), or of its negation (false)
+abbrev pub under : Junction → Bool → Junction
+under And true = And
+under And false = Or
+under Or true = Or
+under Or false = And
