@@ -1,5 +1,5 @@
-// Entries of a card by number, for every number: past a list's end stand a label of false, a node with nothing, and a move that fixes
-// nothing and leads to the end.
+//! Entries of a card by number, for every number: past a list's end stand a label of false, a node with nothing, and a move that fixes
+//! nothing and leads to the end.
 ghost use Rattle.std.specs.Prelude.{◌≡◌};
 ghost use Rattle.tableau.specs.Card.{kind_of, label_at, node_at, move_at};
 ghost use Rattle.records.specs.Raw.{model, node_of, move_of, target_of};

@@ -1,4 +1,4 @@
-// Cards: what a source of one answers, the card file, the sheet of tables in memory, and the writer of card files.
+//! Cards: what a source of one answers, the card file, the sheet of tables in memory, and the writer of card files.
 #![tactic(auto)]
 
 mod counts;

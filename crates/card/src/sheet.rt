@@ -1,10 +1,10 @@
-// A card in memory: a sheet of tables.
+//! A card in memory: a sheet of tables.
 ghost use Rattle.records.specs.Raw.{RawCard};
 
 use crate::source::CardSource;
 use records::{FormulaRecord, MoveRecord, NodeRecord};
 
-// The kind and the four tables, whatever they hold.
+/// The kind and the four tables, whatever they hold.
 #[derive(Clone, Copy)]
 pub struct Sheet<'a> {
     pub kind: u16,

@@ -1,11 +1,11 @@
-// Sources of cards.
+//! Sources of cards.
 ghost use Rattle.std.specs.Prelude.{◌≡◌, length};
 ghost use Rattle.std.specs.List.{slice_get};
 ghost use Rattle.records.specs.Raw.{RawCard};
 
 use records::{FormulaRecord, MoveRecord, NodeRecord};
 
-// A source of one fixed card. Asked for an entry of a list it answers that entry, and none at or past the list's count.
+/// A source of one fixed card. Asked for an entry of a list it answers that entry, and none at or past the list's count.
 pub trait CardSource {
     ghost card: { Self → RawCard };
 

@@ -1,4 +1,4 @@
-// Cards from a sheet, a file and a source that answers by formula; every refusal of the file and of the writer.
+//! Cards from a sheet, a file and a source that answers by formula; every refusal of the file and of the writer.
 ghost use Rattle.std.specs.Prelude.{[], ◌∷◌};
 
 use crate::file::FileSource;

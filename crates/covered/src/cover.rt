@@ -1,4 +1,4 @@
-// What a set of a card's formulas covers.
+//! What a set of a card's formulas covers.
 ghost use Rattle.std.specs.Prelude.{◌≡◌};
 ghost use Rattle.covered.specs.Marks.{range_from, ranges_marks, joined_from, held_marks, covered_marks};
 ghost use Rattle.covered.specs.Meaning.{MarksCovered, MarksCoveredBy};

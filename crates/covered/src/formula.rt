@@ -1,4 +1,4 @@
-// Tests on single formulas of a card.
+//! Tests on single formulas of a card.
 ghost use Rattle.std.specs.Prelude.{◌≡◌};
 ghost use Rattle.covered.specs.Marks.{is_range, includes, covers_range, parts_cover, follows};
 

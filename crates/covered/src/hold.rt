@@ -1,4 +1,4 @@
-// What a set of a card's formulas holds: its members, and both parts of each conjunction held.
+//! What a set of a card's formulas holds: its members, and both parts of each conjunction held.
 ghost use Rattle.std.specs.Prelude.{◌≡◌};
 ghost use Rattle.covered.specs.Marks.{spread, held_marks};
 ghost use Rattle.covered.specs.Meaning.{MarksHeld};

@@ -1,4 +1,4 @@
-// What a set of a card's formulas holds and covers, as marks over the card's formula numbers.
+//! What a set of a card's formulas holds and covers, as marks over the card's formula numbers.
 #![tactic(auto)]
 
 pub mod cover;

@@ -1,4 +1,4 @@
-// Marks over the numbers of a card's formulas, at most 1,024. They are an array of the caller's, since the library takes no memory.
+//! Marks over the numbers of a card's formulas, at most 1,024. They are an array of the caller's, since the library takes no memory.
 ghost use Rattle.std.specs.Prelude.{◌≡◌};
 ghost use Rattle.covered.specs.Marks.{marked, mark};
 

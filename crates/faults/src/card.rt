@@ -1,11 +1,11 @@
-// What a card is refused for: a reason with a fixed number, and the list and the place in it where it stands.
+//! What a card is refused for: a reason with a fixed number, and the list and the place in it where it stands.
 ghost use Rattle.std.specs.Prelude.{◌≡◌};
 ghost use Rattle.faults.specs.declared.card.CardFault.TheVariants.{Short};
 ghost use Rattle.faults.specs.Cards.{card_reason_number, card_list_number, card_fault_number, card_fault_list, card_fault_place, card_fault_layer};
 
 use crate::{Buffer, Layer};
 
-// Why a card is refused, in the order in which a card is judged.
+/// Why a card is refused, in the order in which a card is judged.
 #[derive(Clone, Copy, PartialEq, Eq, Debug)]
 pub enum CardReason {
     // the trailer of a file, or a count or the kind of a card
@@ -28,7 +28,7 @@ pub enum CardReason {
     Step = 16,
 }
 
-// The lists of a card, and the trailer of its file.
+/// The lists of a card, and the trailer of its file.
 #[derive(Clone, Copy, PartialEq, Eq, Debug)]
 pub enum CardList {
     Formulas = 0,
@@ -38,7 +38,7 @@ pub enum CardList {
     Trailer = 4,
 }
 
-// What a call over a card may be refused for: the card itself, or a lent buffer that is too short.
+/// What a call over a card may be refused for: the card itself, or a lent buffer that is too short.
 #[derive(Clone, Copy, PartialEq, Eq, Debug)]
 pub enum CardFault {
     Refused {
@@ -66,7 +66,7 @@ impl CardList {
 }
 
 impl CardFault {
-    // The number under which the refusal is listed.
+    /// The number under which the refusal is listed.
     pub fn number(self) -> u8
         ensures { result ≡ card_fault_number self }
     {
@@ -80,7 +80,7 @@ impl CardFault {
         }
     }
 
-    // The number of the list, 0 where no list is to blame.
+    /// The number of the list, 0 where no list is to blame.
     pub fn list(self) -> u8
         ensures { result ≡ card_fault_list self }
     {
@@ -94,7 +94,7 @@ impl CardFault {
         }
     }
 
-    // The place in the list, or the buffer's number.
+    /// The place in the list, or the buffer's number.
     pub fn place(self) -> usize
         ensures { result ≡ card_fault_place self }
     {
@@ -108,7 +108,7 @@ impl CardFault {
         }
     }
 
-    // Every such fault is of the card's layer.
+    /// Every such fault is of the card's layer.
     pub fn layer(self) -> Layer
         ensures { result ≡ card_fault_layer self }
     {

@@ -1,4 +1,4 @@
-// What a text is refused for: a reason with a fixed number, and the byte where it stands.
+//! What a text is refused for: a reason with a fixed number, and the byte where it stands.
 #![tactic(auto)]
 
 ghost use Rattle.std.specs.Prelude.{◌≡◌};
@@ -7,7 +7,7 @@ ghost use Rattle.faults.specs.Numbers.{reason_number, buffer_number, fault_numbe
 
 pub mod card;
 
-// Why a text is refused, smallest number first.
+/// Why a text is refused, smallest number first.
 #[derive(Clone, Copy, PartialEq, Eq, Debug)]
 pub enum Reason {
     TooLong = 1,
@@ -19,14 +19,14 @@ pub enum Reason {
     Formulas = 7,
 }
 
-// A refused text: the reason, and the byte at which it stands.
+/// A refused text: the reason, and the byte at which it stands.
 #[derive(Clone, Copy, PartialEq, Eq, Debug)]
 pub struct TextFault {
     pub reason: Reason,
     pub place: usize,
 }
 
-// Memory that the caller lends.
+/// Memory that the caller lends.
 #[derive(Clone, Copy, PartialEq, Eq, Debug)]
 pub enum Buffer {
     Index = 0,
@@ -35,7 +35,7 @@ pub enum Buffer {
     Output = 3,
 }
 
-// The parts of the work that refuse, each with its own list of reasons.
+/// The parts of the work that refuse, each with its own list of reasons.
 #[derive(Clone, Copy, PartialEq, Eq, Debug)]
 pub enum Layer {
     Text = 1,
@@ -44,7 +44,7 @@ pub enum Layer {
     Book = 4,
 }
 
-// What reading a text may be refused for: the text itself, or a lent buffer that is too short.
+/// What reading a text may be refused for: the text itself, or a lent buffer that is too short.
 #[derive(Clone, Copy, PartialEq, Eq, Debug)]
 pub enum Fault {
     Text(TextFault),
@@ -68,7 +68,7 @@ impl Buffer {
 }
 
 impl Fault {
-    // The number under which the refusal is listed.
+    /// The number under which the refusal is listed.
     pub fn number(self) -> u8
         ensures { result ≡ fault_number self }
     {
@@ -78,7 +78,7 @@ impl Fault {
         }
     }
 
-    // A short buffer belongs to the card's layer, also where a text is read.
+    /// A short buffer belongs to the card's layer, also where a text is read.
     pub fn layer(self) -> Layer
         ensures { result ≡ fault_layer self }
     {
@@ -88,7 +88,7 @@ impl Fault {
         }
     }
 
-    // The byte of the text, or the buffer's number.
+    /// The byte of the text, or the buffer's number.
     pub fn place(self) -> usize
         ensures { result ≡ fault_place self }
     {

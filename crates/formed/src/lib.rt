@@ -1,4 +1,4 @@
-// The first tests of a card, which look at its entries one by one: counts and kind, the form of every entry, and equal formulas.
+//! The first tests of a card, which look at its entries one by one: counts and kind, the form of every entry, and equal formulas.
 #![tactic(auto)]
 
 pub mod counts;

@@ -1,4 +1,4 @@
-// How formulas begin and how they are joined.
+//! How formulas begin and how they are joined.
 ghost use Rattle.std.specs.Prelude.{◌≡◌};
 ghost use Rattle.grammar.specs.Grammar.{head_of, symbol_of, prefix_in};
 

@@ -1,4 +1,4 @@
-// The laws of reading. Each function does nothing, and its contract is the law.
+//! The laws of reading. Each function does nothing, and its contract is the law.
 ghost use Rattle.grammar.specs.Refusals.{RefusedTokenIsFinal};
 ghost use Rattle.grammar.specs.Shows.{ReadsWhatIsDerived, DerivationIsUnique, DerivedFormulasAreFine};
 

@@ -1,4 +1,4 @@
-// The grammar of a rules text: how it is read, and the laws of its reading.
+//! The grammar of a rules text: how it is read, and the laws of its reading.
 #![tactic(auto)]
 
 pub mod head;

@@ -1,4 +1,4 @@
-// The bounds of temporal operators: `[n]` behind X, `[n,m]` behind G and F.
+//! The bounds of temporal operators: `[n]` behind X, `[n,m]` behind G and F.
 ghost use Rattle.std.specs.Prelude.{◌≡◌};
 ghost use Rattle.std.specs.Result.{IfOk};
 ghost use Rattle.lexer.specs.Bounds.{sign_in, number_in, bound_after, bound_in, range_from, range_in, GoodBound, GoodRange};

@@ -1,4 +1,4 @@
-// The tokens of a rules text, one at a time, with no memory of its own.
+//! The tokens of a rules text, one at a time, with no memory of its own.
 #![tactic(auto)]
 
 pub mod bounds;

@@ -1,4 +1,4 @@
-// The token at a place of a text.
+//! The token at a place of a text.
 ghost use Rattle.std.specs.Prelude.{◌≡◌, Bool, ◌+◌, ◌-◌, ◌*◌, ◌≤◌, min, length, slice_index};
 ghost use Rattle.std.specs.Str.{bytes_eq};
 ghost use Rattle.lexer.specs.Lexer.{is_in, run, part, numeral, word_token, symbol_token, symbol_length, look_at, Sees};

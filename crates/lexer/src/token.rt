@@ -1,4 +1,4 @@
-// What a token is.
+//! What a token is.
 ghost use Rattle.std.specs.Prelude.{◌≡◌};
 ghost use Rattle.lexer.specs.Tokens.{fault_of, is_symbol, is_line, is_end, refusal_of, number_of};
 

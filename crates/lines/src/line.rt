@@ -11,7 +11,7 @@ pub struct Line {
     len: usize,
 }
 
-// What stands past the bytes that are shown is 0, so that these alone give the fields back, as a `Copy` type with a model has to.
+/// What stands past the bytes that are shown is 0, so that these alone give the fields back, as a `Copy` type with a model has to.
 impl Model for Line {
     ghost use Rattle.std.specs.Prelude.{ℕ, List, take};
 

@@ -1,4 +1,4 @@
-// Where a card's list of formulas has the formulas of a specification.
+//! Where a card's list of formulas has the formulas of a specification.
 #![tactic(auto)]
 
 ghost use Rattle.std.specs.Prelude.{◌≡◌, List, slice_index};

@@ -8,7 +8,7 @@ ghost use Rattle.names.specs.Words.{KeepsWords, is_environment, name_code, name_
 use index::Key;
 
 /// A word of at most 15 bytes. The bytes past its length are 0.
-// No heap: the bytes stand in an array with their count, so that a name is `Copy` and all names have one size.
+/// No heap: the bytes stand in an array with their count, so that a name is `Copy` and all names have one size.
 #[derive(Clone, Copy, PartialEq, Eq)]
 pub struct Name {
     pub bytes: [u8; 15],

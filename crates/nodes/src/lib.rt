@@ -1,4 +1,4 @@
-// Written formulas as lists of nodes, parts before wholes.
+//! Written formulas as lists of nodes, parts before wholes.
 #![tactic(auto)]
 
 pub mod node;

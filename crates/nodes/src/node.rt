@@ -1,4 +1,4 @@
-// A node of a written formula.
+//! A node of a written formula.
 
 /// A unary operator with its bounds.
 #[derive(Clone, Copy)]

@@ -1,4 +1,4 @@
-// The two formulas of a text as it writes them.
+//! The two formulas of a text as it writes them.
 ghost use Rattle.std.specs.Prelude.{◌≡◌, ◌<◌, ◌≤◌, true, length, take};
 ghost use Rattle.nodes.specs.Trees.{ordered as in_order};
 

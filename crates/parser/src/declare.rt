@@ -1,4 +1,4 @@
-// Variables are numbered by the first appearance of their names, each kind for itself.
+//! Variables are numbered by the first appearance of their names, each kind for itself.
 ghost use Rattle.std.specs.Prelude.{◌≡◌, ◌+◌, ◌<◌, [], if◌then◌else◌};
 ghost use Rattle.parser.specs.Naming.{Appended, Declared, Known, Numbered, names_of};
 

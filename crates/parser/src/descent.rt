@@ -1,4 +1,4 @@
-// The recursive descent: `left` is the nesting left.
+//! The recursive descent: `left` is the nesting left.
 ghost use Rattle.parser.specs.Reading.{ReadsBy, Ready, arrow_with, chain_with, operand_with, unary_with};
 
 use super::leaves::deeper;

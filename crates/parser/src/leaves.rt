@@ -1,4 +1,4 @@
-// What the descent does besides descending: the nesting left, names and new nodes.
+//! What the descent does besides descending: the nesting left, names and new nodes.
 ghost use Rattle.std.specs.Prelude.{◌≡◌, ◌<◌, ◌≤◌, true, length};
 ghost use Rattle.nodes.specs.declared.node.Node.TheVariants as node;
 ghost use Rattle.nodes.specs.Trees.{parts_below};

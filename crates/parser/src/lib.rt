@@ -1,4 +1,4 @@
-// Reads a rules text by recursive descent.
+//! Reads a rules text by recursive descent.
 #![tactic(auto)]
 
 ghost use Rattle.std.specs.Prelude.{◌≤◌, [], length};

@@ -1,4 +1,4 @@
-// The lines of a text: header words, line ends and blank lines.
+//! The lines of a text: header words, line ends and blank lines.
 ghost use Rattle.std.specs.Prelude.{◌≡◌, codes};
 ghost use Rattle.lexer.specs.Bounds.{then_ok};
 ghost use Rattle.grammar.specs.Sections.{blanks, header_in, third_begins, third_in};

@@ -1,4 +1,4 @@
-// What parsing a text gives.
+//! What parsing a text gives.
 use super::table::Names;
 use nodes::syntax::Syntax;
 

@@ -1,4 +1,4 @@
-// What a reader holds, and what it answers.
+//! What a reader holds, and what it answers.
 ghost use Rattle.std.specs.Prelude.{◌≡◌, ◌≤◌, true, length, take};
 ghost use Rattle.nodes.specs.Trees.{ordered as in_order};
 

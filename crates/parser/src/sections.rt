@@ -1,4 +1,4 @@
-// The sections of a text.
+//! The sections of a text.
 ghost use Rattle.std.specs.Prelude.{◌≡◌, ◌≤◌, [], length};
 ghost use Rattle.grammar.specs.Sections.{formula_in, safety_in, sections_of};
 ghost use Rattle.parser.specs.Naming.{names_of};

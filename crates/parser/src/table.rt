@@ -1,4 +1,4 @@
-// The names of a text's variables, in order of appearance.
+//! The names of a text's variables, in order of appearance.
 ghost use Rattle.std.specs.Prelude.{◌≡◌, ◌+◌, ◌≤◌};
 
 use names::Name;

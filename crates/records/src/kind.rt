@@ -1,4 +1,4 @@
-// The numbers that stand for the kinds of formulas.
+//! The numbers that stand for the kinds of formulas.
 ghost use Rattle.std.specs.Prelude.{◌≡◌};
 ghost use Rattle.records.specs.Kinds.{NamedBack, named, recorded};
 

@@ -1,4 +1,4 @@
-// The entries of a card as plain records, as a source answers them and a file holds them.
+//! The entries of a card as plain records, as a source answers them and a file holds them.
 #![tactic(auto)]
 
 mod kind;

@@ -1,4 +1,4 @@
-// Formula records as keys of an index.
+//! Formula records as keys of an index.
 ghost use Rattle.std.specs.Prelude.{◌≡◌};
 ghost use Rattle.std.proofs.Common.{rules};
 ghost use Rattle.rested.specs.Codes.{formula_code};

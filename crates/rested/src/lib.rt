@@ -1,4 +1,4 @@
-// The rests of a card's formulas after a move, in one ascending pass over the card's list.
+//! The rests of a card's formulas after a move, in one ascending pass over the card's list.
 #![tactic(auto)]
 
 pub mod key;

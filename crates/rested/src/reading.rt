@@ -1,4 +1,4 @@
-// Readings: which literals count as true.
+//! Readings: which literals count as true.
 ghost use Rattle.std.specs.Prelude.{◌≡◌, ℕ, Bool};
 ghost use Rattle.temporal.specs.Game.{value};
 ghost use Rattle.tableau.specs.Moves.{cautious, generous};

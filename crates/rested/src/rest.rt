@@ -1,4 +1,4 @@
-// The rest of each formula of a list, by one reading.
+//! The rest of each formula of a list, by one reading.
 ghost use Rattle.std.specs.Prelude.{◌≡◌, ℕ, ◌≤◌, length, None, slice_index_or};
 ghost use Rattle.formulas.specs.Junctions.{join_of, range_of};
 ghost use Rattle.rested.specs.Listing.{Ready};

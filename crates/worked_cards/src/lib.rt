@@ -1,4 +1,4 @@
-// Worked cards: texts and cards with their outcomes, computed by the definitions from the bytes of the text on.
+//! Worked cards: texts and cards with their outcomes, computed by the definitions from the bytes of the text on.
 #![tactic(auto)]
 
 ghost use Rattle.worked_cards.specs.Worked.{MarkedAsListed, worked};
