@@ -53,6 +53,7 @@ fn renumbered(numbers: &[u16; 256], formula: Formula) -> Formula
 fn numbers_of(entries: &[Formula], slots: &[Slot<FormulaKey>]) -> Option<[u16; 256]>
     ensures { Numbers entries.now slots.now result }
 {
+    // No heap: an array for the largest list.
     let mut numbers = [0; 256];
     for (i, entry) in entries.iter().enumerate().take(256) {
         numbers[i] = listed(slots, renumbered(&numbers, *entry).into())?;

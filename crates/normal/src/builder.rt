@@ -34,7 +34,7 @@ fn number_of(constant: bool) -> u16
     constant as u16
 }
 
-/// A variable or its negation.
+/// A variable or its negation. A sign picks one of two entries; an enum for the sign would be no plainer.
 fn literal(sign: bool, variable: u8) -> Formula
     ensures { result ≡ literal_of sign variable }
 {

@@ -12,7 +12,8 @@ const BLANK: Name = Name {
     length: 0,
 };
 
-/// The variable that has so many of its kind before it.
+/// The variable that has so many of its kind before it. A name is one of the environment or not: the definitions compute with that truth
+/// value, and an enum beside it would be no plainer.
 fn variable_of(environment: bool, rank: u8) -> u8
     requires { rank < 16 }
     ensures { result ≡ (if environment then 0 else 16) + rank }

@@ -26,12 +26,9 @@ fn print_line(rt: &HostRuntime, line: &Line) -> io::Result<()> {
 }
 
 /// Every line of the explanation, in order.
-fn print_lines(rt: &HostRuntime, res: &Result<Specification, Fault>) -> io::Result<()> {
-    for n in 0..usize::MAX {
-        match line(res, n) {
-            Some(shown) => print_line(rt, &shown)?,
-            None => break,
-        }
+fn print_lines(rt: &HostRuntime, reading: &Result<Specification, Fault>) -> io::Result<()> {
+    for shown in (0..usize::MAX).map_while(|n| line(reading, n)) {
+        print_line(rt, &shown)?;
     }
     Ok(())
 }

@@ -133,6 +133,7 @@ pub fn rests<R: Reading>(
     ensures past { (i : ℕ) → length records.now ≤ i → slice_index_or result i None ≡ None }
     ensures len { length result ≡ 1024 }
 {
+    // No heap: an array for the largest list.
     let mut memo = [None; 1024];
     for (i, record) in records.iter().enumerate().take(1024) {
         memo[i] = rest_of(slots, &memo, reading, *record);
