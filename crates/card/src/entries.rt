@@ -68,7 +68,7 @@ pub fn target_of(m: MoveRecord) -> Target
     }
 }
 
-/// The formula number of a label entry.
+/// The formula number of a label entry. (This and the two below differ in what stands past the end, and are one call each.)
 pub fn label_of<S: CardSource>(source: &S, i: usize) -> u16
     ensures { result ≡ label_at (model (S.card source.now)) i }
 {

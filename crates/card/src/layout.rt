@@ -70,7 +70,7 @@ pub(crate) fn high(word: u16) -> u8
     (word / 256) as u8
 }
 
-/// The bytes of a formula.
+/// The bytes of a formula. (Each kind of entry has its own fields, so each has a table of its own.)
 fn formula_to_bytes(record: FormulaRecord) -> [u8; 10]
     ensures { result ≡ formula_bytes «record» }
 {

@@ -6,6 +6,7 @@ ghost use Rattle.card.specs.Trailer.{trailer_fault, refused_field, required};
 use crate::source::CardSource;
 use faults::card::{CardFault, CardList, CardReason};
 
+/// The limits, one test each, by the name of its definition: a test of any limits would say no less at each call.
 pub(crate) fn formulas_right(count: usize) -> bool
     ensures { result ≡ formulas_right count }
 {

@@ -32,7 +32,7 @@ fn high_variables(n: usize) -> usize
     }
 }
 
-/// How many words the variables above the low six have.
+/// How many words the variables above the low six have. (The bound stands here and below since these take the number apart from the bitmap.)
 fn word_count(high: usize) -> usize
     requires { high ≤ 10 }
     ensures { result ≡ 2 ^ high }

@@ -46,6 +46,8 @@ fn literal(sign: bool, variable: u8) -> Formula
 }
 
 impl Builder {
+    // The slots are lent anew to each call: what ties them to the list stands in `Ready`, and cannot stand in the type.
+
     /// A list of the constants alone, which the slots index.
     pub fn new(slots: &mut [Slot<Formula>]) -> Builder
         requires clear { Indexed entry_code slots.old [] }

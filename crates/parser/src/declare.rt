@@ -35,7 +35,7 @@ impl Names {
         }
     }
 
-    /// How many variables the environment or the system has.
+    /// How many variables the environment (true) or the system has.
     fn used(&self, environment: bool) -> u8
         ensures { result ≡ (if environment then self.now.environment else self.now.system) }
     {

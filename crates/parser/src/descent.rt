@@ -12,6 +12,8 @@ use names::Name;
 use nodes::node::{Connective, Node};
 
 impl Reader {
+    // The slots are lent anew to each call: what ties them to the names stands in `Ready`, and cannot stand in the type.
+
     /// A formula up to unary operators.
     #[cycle(arrow_chain_operand_unary)]
     fn unary(&mut self, slots: &mut [Slot<Name>], from: Cursor, left: u8) -> Result<Part, TextFault>
