@@ -2,7 +2,6 @@
 #![tactic(auto)]
 
 ghost use Rattle.std.specs.Prelude.{◌≡◌};
-ghost use Rattle.std.proofs.Common.{rules};
 ghost use Rattle.formulas.specs.Entries.{entry_code, mixed};
 
 pub mod junction;
@@ -38,8 +37,6 @@ fn mixed(operator: u8, a: u16, b: u16, c: u16) -> u32
 impl Key for Formula {
     ghost coded = { entry_code };
 
-    ghost exact = { Prim.search rules };
-
     fn code(&self) -> u32 {
         match *self {
             Formula::False => mixed(0, 0, 0, 0),
@@ -52,5 +49,9 @@ impl Key for Formula {
             Formula::Always(n, m, a) => mixed(7, n, m, a),
             Formula::Eventually(n, m, a) => mixed(8, n, m, a),
         }
+    }
+
+    fn same(&self, other: &Formula) -> bool {
+        self == other
     }
 }

@@ -2,7 +2,6 @@
 #![tactic(auto)]
 
 ghost use Rattle.std.specs.Prelude.{◌≡◌, length, slice_get};
-ghost use Rattle.std.proofs.Common.{rules};
 ghost use Rattle.names.specs.Words.{KeepsWords, is_environment, name_code, name_of, next_code, word_of};
 
 use index::Key;
@@ -74,11 +73,13 @@ fn next_code(code: u32, byte: u8) -> u32
 impl Key for Name {
     ghost coded = { name_code };
 
-    ghost exact = { Prim.search rules };
-
     fn code(&self) -> u32 {
         self.bytes
             .iter()
             .fold(0, |code, byte| next_code(code, *byte))
+    }
+
+    fn same(&self, other: &Name) -> bool {
+        self == other
     }
 }

@@ -1,6 +1,5 @@
 //! Formula records as keys of an index.
 ghost use Rattle.std.specs.Prelude.{◌≡◌};
-ghost use Rattle.std.proofs.Common.{rules};
 ghost use Rattle.rested.specs.Codes.{formula_code};
 
 use index::Key;
@@ -23,9 +22,11 @@ fn code_of(f: &FormulaRecord) -> u32
 impl Key for FormulaKey {
     ghost coded = { λ k. formula_code k.formula };
 
-    ghost exact = { Prim.search rules };
-
     fn code(&self) -> u32 {
         code_of(&self.formula)
+    }
+
+    fn same(&self, other: &FormulaKey) -> bool {
+        self == other
     }
 }
