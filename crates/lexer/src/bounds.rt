@@ -3,12 +3,12 @@ ghost use Rattle.std.specs.Prelude.{◌≡◌};
 ghost use Rattle.std.specs.Result.{IfOk};
 ghost use Rattle.lexer.specs.Bounds.{sign_in, number_in, bound_after, bound_in, range_from, range_in, GoodBound, GoodRange};
 
-use super::look::{expect, look};
+use super::look::look;
 use super::token::Symbol;
 use faults::{Reason, TextFault};
 
 /// A number that was read, and where the text goes on behind it.
-/// It is no instance of a generic pair of a value and a place: with one name for every value that is no plainer.
+/// It is no instance of a generic pair of a value and a place: no function takes all such pairs, and one name for every value says less.
 #[derive(Clone, Copy, PartialEq, Eq, Debug)]
 pub struct Bound {
     pub value: u16,
@@ -28,7 +28,8 @@ pub struct Range {
 fn read_symbol(text: &[u8], at: usize, want: Symbol) -> Result<usize, TextFault>
     ensures { result ≡ sign_in text.now want at }
 {
-    expect(text, at, |seen| seen.token.is_symbol(want))
+    let seen = look(text, at);
+    seen.expect(seen.token.is_symbol(want))
 }
 
 /// A number from `least` to 4,095 that has to stand here.

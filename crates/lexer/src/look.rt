@@ -2,10 +2,8 @@
 ghost use Rattle.std.specs.Prelude.{◌≡◌, Bool, ◌+◌, ◌-◌, ◌*◌, ◌≤◌, min, length, slice_index};
 ghost use Rattle.std.specs.Str.{bytes_eq};
 ghost use Rattle.lexer.specs.Lexer.{is_in, run, part, numeral, word_token, symbol_token, symbol_length, look_at, Sees};
-ghost use Rattle.lexer.specs.Bounds.{expected};
 
 use super::token::{Lexeme, Operator, Symbol, Token};
-use faults::TextFault;
 
 /// A kind of byte whose runs are one token, or the space between tokens.
 /// It stays an enum: a closure in its place is no plainer, since the contract of `run_len` would then range over every test.
@@ -136,23 +134,6 @@ pub fn look(text: &[u8], at: usize) -> Lexeme
         let next = from + symbol_len(token);
         Lexeme { token, from, next }
     }
-}
-
-/// Where the text goes on behind a token that passes the test, or the token's refusal.
-pub fn expect<F: FnOnce(Lexeme) -> bool>(
-    text: &[u8],
-    at: usize,
-    test: F,
-) -> Result<usize, TextFault>
-    requires { F.IsAlwaysCallable test }
-    ensures { let seen = look_at text.now at in
-        (passes : Bool) × F.post test seen passes × (result ≡ expected passes seen) }
-{
-    let seen = look(text, at);
-    if !test(seen) {
-        return Err(seen.misplaced());
-    }
-    Ok(seen.next)
 }
 
 /// Whether the bytes from `from` to `next`, as far as the text has them, are the given word.

@@ -1,5 +1,6 @@
 //! What a token is.
 ghost use Rattle.std.specs.Prelude.{◌≡◌};
+ghost use Rattle.lexer.specs.Bounds.{expected};
 ghost use Rattle.lexer.specs.Tokens.{fault_of, is_symbol, is_line, is_end, refusal_of, number_of};
 
 use faults::{Reason, TextFault};
@@ -106,5 +107,17 @@ impl Lexeme {
         ensures { result ≡ fault_of (refusal_of self.token) self }
     {
         self.fault(self.token.refusal())
+    }
+
+    /// Where the text goes on behind this token if it is what has to stand here, else its refusal.
+    /// A test in place of its answer would be a closure, and with it a precondition of a public call.
+    pub fn expect(self, passes: bool) -> Result<usize, TextFault>
+        ensures { result ≡ expected passes self }
+    {
+        if passes {
+            Ok(self.next)
+        } else {
+            Err(self.misplaced())
+        }
     }
 }

@@ -6,7 +6,7 @@ use super::reader::{Cursor, Part, Reader};
 use faults::TextFault;
 use grammar::head::{Head, head_of, read_prefix, symbol_of};
 use index::Slot;
-use lexer::look::{expect, look};
+use lexer::look::look;
 use lexer::token::Symbol;
 use names::Name;
 use nodes::node::{Connective, Node};
@@ -37,7 +37,8 @@ impl Reader {
                 let left = deeper(left, seen)?;
                 let at = seen.next;
                 let part = self.arrow(Connective::Equivalent, slots, Cursor { text, at }, left)?;
-                let next = expect(text, part.next, |seen| seen.token.is_symbol(Symbol::Close))?;
+                let close = look(text, part.next);
+                let next = close.expect(close.token.is_symbol(Symbol::Close))?;
                 Ok(Part { next, ..part })
             }
         }
@@ -78,6 +79,7 @@ impl Reader {
     {
         let text = from.text;
         let mut part = self.operand(by, slots, from, left)?;
+        // The loop ends with the text, not with a count; so do those over lines.
         'operands: loop {
             let seen = look(text, part.next);
             if !seen.token.is_symbol(symbol_of(by)) {

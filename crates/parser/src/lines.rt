@@ -5,7 +5,7 @@ ghost use Rattle.grammar.specs.Sections.{blanks, header_in, third_begins, third_
 ghost use Rattle.grammar.specs.Sections.{is_this, line_in, word_in};
 
 use faults::TextFault;
-use lexer::look::{expect, look, same_word};
+use lexer::look::{look, same_word};
 use lexer::token::{Lexeme, Token};
 
 /// Whether a token is this word.
@@ -19,14 +19,16 @@ fn is_this(text: &[u8], word: &[u8], seen: Lexeme) -> bool
 fn expect_word(text: &[u8], word: &[u8], at: usize) -> Result<usize, TextFault>
     ensures { result ≡ word_in text.now word.now at }
 {
-    expect(text, at, |seen| is_this(text, word, seen))
+    let seen = look(text, at);
+    seen.expect(is_this(text, word, seen))
 }
 
 #[tactic(auto, unfolding(grammar::specs::Sections::line_in))]
 pub(crate) fn expect_line(text: &[u8], at: usize) -> Result<usize, TextFault>
     ensures { result ≡ line_in text.now at }
 {
-    expect(text, at, |seen| seen.token.is_line())
+    let seen = look(text, at);
+    seen.expect(seen.token.is_line())
 }
 
 /// Past blank lines.
@@ -84,13 +86,9 @@ pub(crate) fn third_section(text: &[u8], at: usize) -> Result<usize, TextFault>
 {
     let words = third_words(text, at)?;
     let line = expect_line(text, words)?;
-    let last = expect(text, skip_lines(text, line), |seen| {
-        seen.token == Token::Constant(true)
-    })?;
-    let end = expect(
-        text,
-        last,
-        |seen| seen.token.is_line() || seen.token.is_end(),
-    )?;
-    expect(text, skip_lines(text, end), |seen| seen.token.is_end())
+    let truth = look(text, skip_lines(text, line));
+    let behind = look(text, truth.expect(truth.token == Token::Constant(true))?);
+    let end = behind.expect(behind.token.is_line() || behind.token.is_end())?;
+    let last = look(text, skip_lines(text, end));
+    last.expect(last.token.is_end())
 }
