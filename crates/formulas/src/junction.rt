@@ -36,10 +36,7 @@ impl Junction {
     pub fn neutral(self) -> u16
         ensures { result ≡ neutral_of self }
     {
-        match self {
-            Junction::And => 1,
-            Junction::Or => 0,
-        }
+        self.under(false).absorbing()
     }
 
     /// The conjunction or disjunction of entries a and b.
