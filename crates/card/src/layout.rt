@@ -46,7 +46,7 @@ pub(crate) fn put(output: &mut [u8], at: usize, bytes: &[u8])
 pub(crate) fn byte_at(bytes: &[u8], at: usize) -> u8
     ensures { result ≡ byte_at bytes.now at }
 {
-    if at < bytes.len() { bytes[at] } else { 0 }
+    bytes.get(at).copied().unwrap_or(0)
 }
 
 /// The number of two bytes, the low one first.
