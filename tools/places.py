@@ -1,5 +1,5 @@
 #!/usr/bin/env python3
-"""Lists places in crates/*/src where today's Rattle has a better form, point by point.
+"""Lists places in crates/*/src and proofs where today's Rattle has a better form, point by point.
 
 Usage: tools/places.py [FOLDER] [--list]: counts, and with --list each place as file:line and text. FOLDER is the top of a checkout.
 """
@@ -65,7 +65,7 @@ def bodies():
         for found in re.finditer(r"^( *)(?:pub(?:\(crate\))? )?fn (\w+)", text, re.M):
             close = re.compile("^" + found.group(1) + r"}", re.M).search(text, found.end())
             open_at = text.find("\n" + found.group(1) + "{", found.end())
-            if ";\n\n" in text[found.end() : open_at]:  # a method of a trait, without a body
+            if re.search(r";\n(\n|})", text[found.end() : open_at]):  # a method of a trait, without a body
                 continue
             if open_at < 0 or close is None or close.start() < open_at:
                 line_end = text.find("{\n", found.end())
@@ -104,6 +104,31 @@ def repeated_clauses():
             yield where[0][0], where[0][1], f"{clause} in {len(where)} functions of {crate}"
 
 
+def proofs():
+    for path in sorted(top.glob("crates/*/proofs/**/*.antt")):
+        yield path.relative_to(top), path.read_text()
+
+
+def answers():
+    for path, text in proofs():
+        for found in re.finditer(r"^pub (\S+) : goal\.\1$", text, re.M):
+            if path.name == "Answers.antt":
+                yield path, text.count("\n", 0, found.start()) + 1, found.group(1)
+
+
+def stated_twice():
+    """Lemmas and helpers that say word for word what another one says: each but the first of its kind."""
+    seen = {}
+    for path, text in proofs():
+        for found in re.finditer(r"^(?:pub )?([a-z][\w'-]*) :(?! goal\.)(.*(?:\n    .*)*)", text, re.M):
+            words = " ".join(found.group(2).split())
+            if len(words) > 20:
+                seen.setdefault(words, []).append((path, text.count("\n", 0, found.start()) + 1, found.group(1)))
+    for words, where in sorted(seen.items()):
+        for path, number, name in where[1:]:
+            yield path, number, f"{name} says what {where[0][2]} says: {words}"
+
+
 POINTS = [
     ("1a a number that stands for nothing or for the end", lambda: lines_that(r"\b(FREE|65_?535)\b|^\s*Wrong,")),
     ("1b kinds by number", lambda: lines_that(r"\.kind == |match \w+\.kind\b|\b(leaf|pair|timed|shorter|later_range|fields_of)\(\d|kind: u8\b|always: bool|conjunction: bool|environment: bool|kind == 1|kind\(\) == 1")),
@@ -117,6 +142,8 @@ POINTS = [
     ("5b a requires that is repeated", repeated_clauses),
     ("6 arrays with a count, arrays side by side", lambda: lines_that(r"^\s*(pub(\(crate\))? )?\w+: \[[\w<>]+; \d+\],")),
     ("7 a switch on which step to run", lambda: lines_that(r"passes: bool|test: bool, |class: Class|always: bool|conjunction: bool|environment: bool\b")),
+    ("8a answers (tools/alone.py tells which of them the check finds alone)", answers),
+    ("8b lemmas that say what another one says", stated_twice),
 ]
 
 for title, places in POINTS:
