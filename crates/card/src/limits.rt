@@ -6,7 +6,9 @@ ghost use Rattle.card.specs.Trailer.{trailer_fault, refused_field, required};
 use crate::source::CardSource;
 use faults::card::{CardFault, CardList, CardReason};
 
-/// The limits, one test each, by the name of its definition: a test of any limits would say no less at each call.
+// The limits, one test each, by the name of its definition: one test of any range would be told the two limits at each call.
+
+/// Has a card a possible number of formulas?
 pub(crate) fn formulas_right(count: usize) -> bool
     ensures { result ≡ formulas_right count }
 {

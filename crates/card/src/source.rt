@@ -9,6 +9,7 @@ use records::{FormulaRecord, MoveRecord, NodeRecord};
 pub trait CardSource {
     ghost card: { Self → RawCard };
 
+    // As a file holds it; `kind_of` says which kind it is.
     fn kind(&self) -> u16
         ensures { result ≡ (card self.now).kind };
 

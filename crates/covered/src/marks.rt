@@ -13,6 +13,7 @@ pub fn is_marked(marks: &[bool; 1024], i: usize) -> bool
 pub fn set_mark(marks: &mut [bool; 1024], i: usize)
     ensures { marks.new ≡ mark marks.old i }
 {
+    // By `get_mut` a proof knows nothing of the marks once that loan is over.
     if i < 1024 {
         marks[i] = true;
     }

@@ -32,7 +32,8 @@ fn high_variables(n: usize) -> usize
     }
 }
 
-/// How many words the variables above the low six have. (The bound stands here and below since these take the number apart from the bitmap.)
+/// How many words the variables above the low six have. It asks for the bound itself, as the next function and `mark_cube` do: they are no methods of
+/// the bitmap, for `Bitmap::mark` lends them its words alone.
 fn word_count(high: usize) -> usize
     requires { high ≤ 10 }
     ensures { result ≡ 2 ^ high }

@@ -16,7 +16,7 @@ fn covers_once<S: CardSource>(source: &S, side: Side, variables: usize, node: No
     ensures { DecidesOnce side (S.card source.now) variables node result }
 {
     let mut marks = Bitmap::new(variables);
-    // A source is asked for entries by number; there is no slice to go over.
+    // Past the list's end the default entry counts, which an iterator over the list would not give.
     for k in 0..node.move_count as usize {
         let x = move_of(source, node.first_move as usize + k);
         if !marks.mark(cube_of(side, x)) {
@@ -38,7 +38,7 @@ fn inputs_alike<S: CardSource>(source: &S, node: NodeRecord) -> bool
     ensures { result ≡ alike (S.card source.now) node }
 {
     let first = move_of(source, node.first_move as usize);
-    // A source is asked for entries by number; there is no slice to go over.
+    // A closure of `all` would have to know that the sum is in range, and past the list's end the default entry counts here too.
     for k in 0..node.move_count as usize {
         let x = move_of(source, node.first_move as usize + k);
         if !same_input(first, x) {

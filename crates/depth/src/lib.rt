@@ -52,7 +52,7 @@ fn deepest_target<S: CardSource>(source: &S, node: NodeRecord, depths: &[u16; 10
 {
     let first = node.first_move as usize;
     let mut deepest = 0;
-    // A source is asked for entries by number; there is no slice to go over.
+    // Past the list's end the default entry counts, which an iterator over the list would not give.
     for k in 0..node.move_count as usize {
         let target = target_of(move_of(source, first + k));
         deepest = deeper(deepest, target_depth(depths, target));
@@ -65,7 +65,7 @@ pub fn depth<S: CardSource>(source: &S) -> usize
     ensures { Descending (S.card source.now) → result ≡ depth_at (model (S.card source.now)) 0 }
 {
     let mut depths = [0; 1024];
-    // A source is asked for entries by number; there is no slice to go over.
+    // Later nodes first: each node writes at its own number, and reads at those of its targets.
     for n in (0..source.node_count().min(NODES)).rev() {
         let node = node_of(source, n);
         depths[n] = above(deepest_target(source, node, &depths));

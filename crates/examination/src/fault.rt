@@ -24,6 +24,7 @@ impl MarkFault {
         }
     }
 
+    // Like the layer of a `Fault`, over another enum.
     /// The layer that refuses.
     pub fn layer(self) -> Layer
         ensures { result ≡ mark_fault_layer self }

@@ -37,6 +37,7 @@ pub fn index_formulas(
 {
     clear(slots);
     for (i, formula) in records.iter().enumerate() {
+        // No card has so many formulas that this fails, and of a longer list nothing is promised.
         let Ok(number) = u16::try_from(i) else {
             break;
         };

@@ -38,7 +38,7 @@ pub fn head_of(token: Token) -> Option<Head>
 }
 
 /// A unary operator that was read with its bounds, and where the text goes on.
-/// It has a type of its own, as `Bound` has: a generic pair would be no plainer.
+/// It has a type of its own, as `Bound` has: a generic pair would lose the name `prefix`, and no function takes all of these pairs.
 #[derive(Clone, Copy)]
 pub struct Prefixed {
     pub prefix: Prefix,

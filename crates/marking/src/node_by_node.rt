@@ -17,7 +17,7 @@ fn judge_labels<S: CardSource>(source: &S, kind: Kind, node: NodeRecord) -> Resu
     ensures { JudgesLabels (S.card source.now) kind node result }
 {
     let first = node.first_label as usize;
-    // A source is asked for entries by number; there is no slice to go over.
+    // Past the list's end the default entry counts, which an iterator over the list would not give.
     for k in 0..node.label_count as usize {
         if !label_kept(kind, label_of(source, first + k)) {
             return Err(refused(CardReason::Label, CardList::Labels, first + k));
@@ -37,7 +37,7 @@ fn judge_targets<S: CardSource>(
     ensures { JudgesTargets (S.card source.now) kind nodes n node result }
 {
     let first = node.first_move as usize;
-    // A source is asked for entries by number; there is no slice to go over.
+    // Past the list's end the default entry counts, which an iterator over the list would not give.
     for k in 0..node.move_count as usize {
         let target = target_of(move_of(source, first + k));
         if !target_kept(kind, nodes, n, target) {
@@ -76,7 +76,7 @@ fn judge_moves<S: CardSource>(
     ensures { JudgesMoves (S.card source.now) terms.now.kind terms.now.records.now terms.now.slots.now marks.now node result }
 {
     let first = node.first_move as usize;
-    // A source is asked for entries by number; there is no slice to go over.
+    // Past the list's end the default entry counts, which an iterator over the list would not give.
     for k in 0..node.move_count as usize {
         judge_move(source, terms, marks, first + k)?;
     }

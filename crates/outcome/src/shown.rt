@@ -37,7 +37,8 @@ fn accepted_line(accepted: Accepted) -> Line
     }
 }
 
-/// The line of a refused text or card. (A text alone is explained without the line end, in a crate that has no cards.) A lent buffer that is too short is shown as a byte or a place too: the buffer's number.
+// A text alone is explained by a line without the line end, in a crate that knows no cards; so this is not that function.
+/// The line of a refused text or card. A lent buffer that is too short is shown as a byte or a place too: the buffer's number.
 fn refused_line(refused: Refused) -> Line
     ensures { result ≡ refused_line refused }
 {

@@ -25,7 +25,7 @@ pub(crate) struct Cursor<'a> {
 }
 
 /// A formula that was read: the place of its node, and where the text goes on.
-/// It has a type of its own, as `Bound` has: a generic pair would be no plainer.
+/// It has a type of its own, as `Bound` has: a generic pair would lose the name `root`, and no function takes all of these pairs.
 #[derive(Clone, Copy)]
 pub(crate) struct Part {
     pub(crate) root: usize,

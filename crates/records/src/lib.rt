@@ -30,7 +30,7 @@ pub struct NodeRecord {
 }
 
 /// A move: bit i of a mask is set if the move fixes variable i of that kind, to bit i of the values. The target is a node, or the end,
-/// written 65,535.
+/// written 65,535 as in a file.
 #[derive(Clone, Copy, PartialEq, Eq, Debug)]
 pub struct MoveRecord {
     pub env_mask: u16,

@@ -6,7 +6,8 @@ ghost use Rattle.records.specs.Raw.{move_of};
 
 use records::{MoveRecord, bit};
 
-/// A reading is the set of literals that it counts as true: `positive` is a variable, otherwise its negation.
+/// A reading is the set of literals that it counts as true: `positive` is a variable, otherwise its negation. The definitions take a literal apart
+/// into these two as well.
 pub trait Reading {
     ghost literals: { Self → Bool → ℕ → Bool };
 

@@ -17,6 +17,7 @@ impl Specification {
         &self.names.items[..self.names.count]
     }
 
+    // These four differ by a `!` alone: an iterator over the names of one kind, which they would share, can be no result.
     /// The name of an environment variable.
     pub fn environment(&self, i: usize) -> Option<Name>
         ensures { result ≡ slice_get (environment_names (view self.now).names) i }

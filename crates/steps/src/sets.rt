@@ -13,7 +13,7 @@ pub fn add_label<S: CardSource>(source: &S, node: NodeRecord, marks: &mut [bool;
     ensures { AddsLabel (S.card source.now) node marks.old marks.new }
 {
     let first = node.first_label as usize;
-    // A source is asked for entries by number; there is no slice to go over.
+    // Past the list's end the default entry counts, which an iterator over the list would not give.
     for k in 0..node.label_count as usize {
         let formula = label_of(source, first + k);
         set_mark(marks, formula as usize);
