@@ -24,9 +24,6 @@ module _ (c : RawCard) where
     pub formula_some : (f : FormulaRecord) → Some f ≡ slice_get c.formulas i → formula_at (model c) i ≡ entry_of f
     formula_some f e = get_d_some entry_of c.formulas i f no_entry e
 
-    pub formula_none : None ≡ slice_get c.formulas i → formula_at (model c) i ≡ no_entry
-    formula_none e = get_or_none entry_of c.formulas i no_entry e
-
     pub label_some : (l : ℕ) → Some l ≡ slice_get c.labels i → label_at (model c) i ≡ l
     label_some l e = entry_some c.labels i l 0 e
 

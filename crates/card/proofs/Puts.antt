@@ -1,12 +1,8 @@
 -- Bytes put over others, piece by piece.
-use Rattle.std.proofs.Common.{◌≡◌, ℕ, ◌+◌, ◌*◌, ◌≤◌, List, [], ◌∷◌, ◌++◌, length, take, drop, sym, ap, ◌∙◌, arith, mul-suc}
+use Rattle.std.proofs.Common.{◌≡◌, ℕ, ◌+◌, ◌*◌, ◌≤◌, List, ◌∷◌, ◌++◌, length, take, drop, sym, ap, ◌∙◌, arith, mul-suc}
 use Rattle.std.specs.List.{flat_map}
-use Rattle.std.proofs.lemmas.List.{append_assoc, length-append, length-take-le, take-append-drop, take_at, drop_at, drop-drop, length-drop}
+use Rattle.std.proofs.lemmas.List.{append_assoc, length-append, length-take-le, take_at, drop_at, drop-drop, length-drop}
 use Rattle.card.specs.Written.{put_at}
-
--- nothing put changes nothing
-pub put_none : (old : List ℕ) (p : ℕ) → put_at old p [] ≡ old
-put_none old p = take-append-drop p old
 
 pub length_put : (old : List ℕ) (p : ℕ) (xs : List ℕ) → p + length xs ≤ length old → length (put_at old p xs) ≡ length old
 length_put old p xs h = simp (length-append, length-drop) (omega (arith, length-take-le p old (omega arith)))

@@ -17,17 +17,6 @@ length_none [] i e = zero-le
 length_none (y ∷ ys) zero e = let z : ◌≡◌ {A = ℕ} 0 1 = cc in absurd (omega arith)
 length_none (y ∷ ys) (suc i) e = suc-le-suc (length_none ys i e)
 
-pub length_some : {X : Type 0} (xs : List X) (i : ℕ) (x : X) → Some x ≡ slice_get xs i → i < length xs
-length_some [] i x e = let z : ◌≡◌ {A = ℕ} 0 1 = cc in absurd (omega arith)
-length_some (y ∷ ys) zero x e = suc-le-suc zero-le
-length_some (y ∷ ys) (suc i) x e = suc-le-suc (length_some ys i x e)
-
-pub drop_none : {X : Type 0} (xs : List X) (i : ℕ) → None ≡ slice_get xs i → drop i xs ≡ []
-drop_none [] zero e = refl
-drop_none [] (suc i) e = refl
-drop_none (y ∷ ys) zero e = let z : ◌≡◌ {A = ℕ} 0 1 = cc in absurd (omega arith)
-drop_none (y ∷ ys) (suc i) e = drop_none ys i e
-
 -- the entry at a place of the list is the first of what is left from there on
 pub first_left : {X : Type 0} (xs : List X) (i : ℕ) (r : Option X) → i < length xs → r ≡ slice_get xs i
     → MatchOption r ((drop i xs ≡ []) × (drop (i + 1) xs ≡ [])) (λ x. drop i xs ≡ x ∷ drop (i + 1) xs)

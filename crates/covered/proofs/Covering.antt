@@ -4,7 +4,7 @@ use mathlib.Core.Bool.{false≢true}
 use Rattle.temporal.specs.Formula.{Formula, bot, top, lit, conj, disj, next, always, eventually, shape, same}
 use Rattle.temporal.specs.Parts.{◌∈◌}
 use Rattle.temporal.specs.Game.{Spec}
-use Rattle.temporal.proofs.Truth.{and_out, and_in, or_out, or_in}
+use Rattle.temporal.proofs.Truth.{and_out, and_in, or_out, or_in, both_ways}
 use Rattle.temporal.proofs.Lists.{cast}
 use Rattle.temporal.proofs.Tells.{Tells, and_tells, eq_tells, le_tells}
 use Rattle.temporal.proofs.Same.{same_tells, member_tells}
@@ -20,7 +20,6 @@ use Rattle.covered.proofs.Spread.{at, ranges_keeps, ranges_length, ranges_marks_
 use Rattle.covered.proofs.Formulas.{first_formula, top_at, conj_at, disj_at, always_at}
 use Rattle.covered.proofs.Formulas.{eventually_at, kind_of_lem, lower_of, upper_of, left_of, right_of}
 use Rattle.covered.proofs.Formulas.{parts_before, different_formulas, held_numbered}
-use Rattle.covered.proofs.Holding.{same_test}
 
 -- ── what the tests on records say ──
 includes_tells : (o r : FormulaRecord) → Tells (includes o r) ((o.n ≤ r.n) × (r.m ≤ o.m))
@@ -294,4 +293,4 @@ module _ (spec : Spec) (rs : List FormulaRecord) (t : Table spec rs) (S : List F
 
   pub marks_covered : Covers rs S (covered_marks rs hs)
   marks_covered i l =
-      same_test (marked (covered_marks rs hs) i) (covers S (formula_of rs i)) (sound i l) (complete (formula_of rs i) i l refl)
+      both_ways (marked (covered_marks rs hs) i) (covers S (formula_of rs i)) (sound i l) (complete (formula_of rs i) i l refl)

@@ -1,12 +1,13 @@
 -- The pass downwards marks what the set holds.
 use Rattle.std.proofs.Common.{◌≡◌, ℕ, ◌<◌, ◌≤◌, Bool, true, false, List, [], ◌∷◌, length, sym, refl, ap, ◌∙◌, subst, inl, inr, arith}
 use Rattle.temporal.specs.Formula.{Formula, bot, top, lit, conj, disj, next, always, eventually, shape}
-use Rattle.temporal.specs.Parts.{◌∈◌, first, later, member}
+use Rattle.temporal.specs.Parts.{◌∈◌, later, member}
 use Rattle.temporal.specs.Game.{Spec}
 use Rattle.temporal.proofs.Lists.{in_append, in_left, in_right, in_cons, cast}
 use Rattle.temporal.proofs.Same.{member_tells}
+use Rattle.temporal.proofs.Truth.{both_ways}
 use Rattle.tableau.specs.Cover.{conjuncts, held}
-use Rattle.tableau.proofs.Cover.{held_member, member_held}
+use Rattle.tableau.proofs.Cover.{own_conjunct, conjunct_held, held_member, member_held}
 use Rattle.records.specs.declared.FormulaRecord.{FormulaRecord}
 use Rattle.records.specs.Table.{Table, Listed, formula_of}
 use Rattle.covered.specs.Marks.{marked, held_marks}
@@ -14,22 +15,7 @@ use Rattle.covered.specs.Meaning.{Members}
 use Rattle.covered.proofs.Spread.{at, held_keep, held_only, held_closed}
 use Rattle.covered.proofs.Formulas.{conj_at, parts_before, numbered, different_formulas, conjunct_numbered}
 
-pub same_test : (a b : Bool) → (a ≡ true → b ≡ true) → (b ≡ true → a ≡ true) → a ≡ b
-same_test true b f g = sym (f refl)
-same_test false true f g = g refl
-same_test false false f g = refl
-
 -- ── what is held has the parts of its conjunctions ──
-own : (f : Formula) → f ∈ conjuncts f
-own bot = first
-own top = first
-own (lit s i) = first
-own (conj f g) = first
-own (disj f g) = first
-own (next n f) = first
-own (always n m f) = first
-own (eventually n m f) = first
-
 -- no conjunction is the one member of a list that has another operator
 other : (f g h : Formula) (k : ℕ) → (shape h).operator ≡ k → (k ≡ 4 → ⊥) → conj f g ∈ (h ∷ []) → ⊥
 other f g h k e n m = elim (in_cons m) [ inl z ↦ n (sym e ∙ ap (λ (x : Formula). (shape x).operator) (sym z)) | inr o ↦ elim o [ ] ]
@@ -42,8 +28,8 @@ conj_parts f g (lit false i) m = absurd (other f g (lit false i) 3 refl (λ e. o
 conj_parts f g (conj x y) m =
     elim (in_cons m) [
       | inl z ↦ (
-        later (in_left (conjuncts x) (conjuncts y) f (cast (ap (λ (h : Formula). (shape h).left) (sym z)) (own x))),
-        later (in_right (conjuncts x) (conjuncts y) g (cast (ap (λ (h : Formula). (shape h).right) (sym z)) (own y))),
+        later (in_left (conjuncts x) (conjuncts y) f (cast (ap (λ (h : Formula). (shape h).left) (sym z)) (own_conjunct x))),
+        later (in_right (conjuncts x) (conjuncts y) g (cast (ap (λ (h : Formula). (shape h).right) (sym z)) (own_conjunct y))),
       )
       | inr n ↦ elim (in_append (conjuncts x) (conjuncts y) (conj f g) n) [
         | inl u ↦ let r = conj_parts f g x u in
@@ -56,11 +42,6 @@ conj_parts f g (disj x y) m = absurd (other f g (disj x y) 5 refl (λ e. omega a
 conj_parts f g (next n x) m = absurd (other f g (next n x) 6 refl (λ e. omega arith) m)
 conj_parts f g (always n k x) m = absurd (other f g (always n k x) 7 refl (λ e. omega arith) m)
 conj_parts f g (eventually n k x) m = absurd (other f g (eventually n k x) 8 refl (λ e. omega arith) m)
-
-conjunct_held : (S : List Formula) (f g : Formula) → f ∈ S → g ∈ conjuncts f → g ∈ held S
-conjunct_held [] f g m i = elim m [ ]
-conjunct_held (h ∷ S) f g first i = in_left (conjuncts f) (held S) g i
-conjunct_held (h ∷ S) f g (later m) i = in_right (conjuncts h) (held S) g (conjunct_held S f g m i)
 
 parts_held : (S : List Formula) (f g : Formula) → conj f g ∈ held S → (f ∈ held S) × (g ∈ held S)
 parts_held S f g m =
@@ -102,5 +83,5 @@ module _ (spec : Spec) (rs : List FormulaRecord) (t : Table spec rs) (S : List F
 
   pub marks_held : Members rs (held S) (held_marks rs ms)
   marks_held j l =
-      same_test (marked (held_marks rs ms) j) (member (formula_of rs j) (held S))
+      both_ways (marked (held_marks rs ms) j) (member (formula_of rs j) (held S))
       (λ m. (member_tells (formula_of rs j) (held S)).1 (sound j l m)) (λ m. complete j l ((member_tells (formula_of rs j) (held S)).0 m))

@@ -6,6 +6,7 @@ use Rattle.temporal.specs.Parts.{◌∈◌, first, member}
 use Rattle.temporal.specs.Game.{Spec}
 use Rattle.temporal.proofs.Lists.{at_member, in_append, in_left, in_right, in_cons, cast}
 use Rattle.temporal.proofs.Same.{member_tells}
+use Rattle.temporal.proofs.Truth.{both_ways}
 use Rattle.tableau.specs.Card.{no_entry}
 use Rattle.tableau.proofs.Trees.{GoodList}
 use Rattle.records.specs.Raw.{RawCard, model, entry_of}
@@ -16,7 +17,6 @@ use Rattle.covered.specs.Meaning.{Members}
 use Rattle.covered.proofs.Passes.{no_record}
 use Rattle.covered.proofs.Spread.{mark_here, mark_keeps, mark_only}
 use Rattle.covered.proofs.Formulas.{different_formulas, formula_count}
-use Rattle.covered.proofs.Holding.{same_test}
 
 -- ── marks of members ──
 -- no marks: the empty set
@@ -31,7 +31,7 @@ module _ (spec : Spec) (rs : List FormulaRecord) (t : Table spec rs) where
   pub members_more : (S : List Formula) (ms : List Bool) (k : ℕ) → k < length rs → length rs ≤ length ms → Members rs S ms
       → Members rs (S ++ (formula_of rs k ∷ [])) (mark ms k)
   members_more S ms k l n h i o =
-      same_test (marked (mark ms k) i) (member (formula_of rs i) (S ++ (formula_of rs k ∷ [])))
+      both_ways (marked (mark ms k) i) (member (formula_of rs i) (S ++ (formula_of rs k ∷ [])))
       (λ m. (member_tells (formula_of rs i) (S ++ (formula_of rs k ∷ []))).1 (out (mark_only ms k i m)))
       (λ m. back (in_append S (formula_of rs k ∷ []) (formula_of rs i) ((member_tells (formula_of rs i) (S ++ (formula_of rs k ∷ []))).0 m)))
     where

@@ -1,6 +1,5 @@
 -- How often the valuations agree with the moves of a node, and what a bitmap tells of that.
-use Rattle.std.proofs.Common.{◌≡◌, ℕ, ◌+◌, ◌-◌, ◌*◌, ◌/◌, ◌%◌, ◌^◌, ◌<◌, ◌≤◌, min, Bool, true, false, cond, ◌&&◌, ◌||◌, eqb, List, [], ◌∷◌, map, get_or, sym, refl, ap, ◌∙◌, subst, true≢false, mod-lt, arith, pow_pos, pow_mono, pow-add}
-use Rattle.temporal.specs.Game.{bit}
+use Rattle.std.proofs.Common.{◌≡◌, ℕ, ◌+◌, ◌-◌, ◌*◌, ◌%◌, ◌^◌, ◌<◌, ◌≤◌, min, Bool, true, false, cond, ◌&&◌, ◌||◌, eqb, List, [], ◌∷◌, map, sym, refl, ap, ◌∙◌, true≢false, mod-lt, arith, pow_pos, pow_mono, pow-add}
 use Rattle.temporal.proofs.Tells.{Tells, eq_tells}
 use Rattle.tableau.specs.Lists.{span, count}
 use Rattle.tableau.specs.Moves.{Move}
@@ -13,9 +12,9 @@ use Rattle.coverings.specs.declared.cube.Side.{Side}
 use Rattle.coverings.specs.Cubes.{agrees, Formed, cube_of}
 use Rattle.coverings.specs.Bitmap.{Apart, Joined, Full}
 use Rattle.coverings.specs.Coverings.{moves_from, once, Cubes}
-use Rattle.coverings.proofs.Valuations.{seen, Words, no_bit, agrees_mod, apart_seen, seen_apart, joined_seen, joined_words}
+use Rattle.coverings.proofs.Valuations.{seen, Words, agrees_mod, apart_seen, seen_apart, joined_seen, joined_words}
 use Rattle.coverings.proofs.Valuations.{full_seen, seen_full}
-use Rattle.coverings.proofs.Rows.{moves_after, after_start, after_next, after_end}
+use Rattle.coverings.proofs.Rows.{moves_after, after_next, after_end}
 
 -- 1 for a test that passes
 abbrev one : Bool → ℕ
@@ -52,15 +51,6 @@ module _ (side : Side) where
     Counted ws k =
         Words ws high
         × ((v : ℕ) → v < 64 * 2 ^ high → one (seen ws v) + times v (moves_after c x k) ≡ times v (moves_from c x))
-
-    pub counted_start : (ws : List ℕ) → ((h : ℕ) → get_or ws h 0 ≡ 0) → Counted ws 0
-    counted_start ws blank = (
-      (λ h l. subst (λ (n : ℕ). n < 2 ^ 64) (sym (blank h)) (pow_pos 64)),
-      (λ v l.
-          let s : seen ws v ≡ false = ap (λ (n : ℕ). bit n (v % 64)) (blank (v / 64)) ∙ no_bit (v % 64) in
-          let t : times v (moves_after c x 0) ≡ times v (moves_from c x) = ap (times v) (after_start c x) in
-          ap (λ b. one b + times v (moves_after c x 0)) s ∙ omega arith),
-    )
 
     module _ (formed : AllFormed) (ws : List ℕ) (k : ℕ) (more : k < x.move_count) (counted : Counted ws k) where
       next : (v : ℕ) → times v (moves_after c x k) ≡ one (agrees v (cube k)) + times v (moves_after c x (k + 1))

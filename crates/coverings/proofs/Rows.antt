@@ -1,5 +1,5 @@
 -- The moves of a node from the k-th on.
-use Rattle.std.proofs.Common.{◌≡◌, ℕ, ◌+◌, ◌-◌, ◌<◌, ◌≤◌, Bool, true, false, ◌&&◌, List, [], ◌∷◌, map, sym, ap, ◌∙◌}
+use Rattle.std.proofs.Common.{◌≡◌, ℕ, ◌+◌, ◌-◌, ◌<◌, ◌≤◌, Bool, true, ◌&&◌, List, [], ◌∷◌, map, sym, ap, ◌∙◌}
 use Rattle.tableau.specs.Lists.{span, all}
 use Rattle.tableau.specs.Moves.{Move}
 use Rattle.tableau.specs.Card.{move_at}
@@ -29,9 +29,3 @@ module _ (c : RawCard) (x : NodeRecord) where
 
       pub all_pass : p m ≡ true → all p (moves_after (k + 1)) ≡ all p (moves_after k)
       all_pass e = sym (next ∙ ap (λ b. b && all p (moves_after (k + 1))) e)
-
-      pub all_fail : p m ≡ false → false ≡ all p (moves_after k)
-      all_fail e = sym (next ∙ ap (λ b. b && all p (moves_after (k + 1))) e)
-
-    pub all_end : x.move_count ≤ k → true ≡ all p (moves_after k)
-    all_end l = sym (ap (all p) (after_end k l))

@@ -132,17 +132,6 @@ module _ (high : ℕ) (c : Cube) (formed : Formed (6 + high) c) where
           ∙ ap (λ b. cond (agrees_high h c && b) (bit_or (get_or ws h 0) (low_word c)) (get_or ws h 0)) (e (bit_and h free) (rest_in h))),
     )
 
-    pub done_start : Done (ltb free) ws
-    done_start = (
-      (λ h l a r. absurd (true≢false (sym r ∙ le-ltb free (bit_and h free) (and_le_r h free)))),
-      (λ h l. go (agrees_high h c) (ltb free (bit_and h free)) (bit_or (get_or ws h 0) (low_word c)) (get_or ws h 0)
-          (le-ltb free (bit_and h free) (and_le_r h free))),
-    )
-      where
-        go : (a b : Bool) (x y : ℕ) → b ≡ false → y ≡ cond (a && b) x y
-        go true b x y e = ap (λ k. cond k x y) (sym e)
-        go false b x y e = refl
-
     module _ (rest : ℕ) (sub : bit_and rest free ≡ rest) (xs : List ℕ) (d : Done (ltb rest) xs) where
       -- word h as it was, or with the cube's bits
       abbrev wanted : ℕ → Bool → ℕ

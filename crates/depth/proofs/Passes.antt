@@ -1,7 +1,7 @@
 -- The pass from the last node to the first: what the array of depths holds.
-use Rattle.std.proofs.Common.{◌≡◌, ℕ, ◌+◌, ◌-◌, ◌^◌, ◌<◌, ◌≤◌, min, List, length, set, sym, ap, ◌∙◌, subst, inl, inr, eq-zero-or-pos, eq-or-lt_of_le, arith, get_or-set_other, get_or-set_same}
+use Rattle.std.proofs.Common.{◌≡◌, ℕ, ◌+◌, ◌-◌, ◌^◌, ◌<◌, ◌≤◌, min, List, length, set, sym, ap, ◌∙◌, subst, inl, inr, eq-or-lt_of_le, arith, get_or-set_other, get_or-set_same}
 use Rattle.tableau.specs.Card.{Node, closed, node_at, move_at, moves_of}
-use Rattle.tableau.specs.Judge.{deepest, depth_in, depth_at}
+use Rattle.tableau.specs.Judge.{deepest, depth_at}
 use Rattle.tableau.specs.Acceptable.{MoveOf, TargetKept}
 use Rattle.records.specs.declared.NodeRecord.{NodeRecord}
 use Rattle.records.specs.Raw.{RawCard, node_of, model}
@@ -14,18 +14,6 @@ use Rattle.depth.proofs.Rounds.{same_above, depth_step, deepest_most, depth_most
 pub record Passed (c : RawCard) (depths : List ℕ) (n : ℕ) : Type 0 where
   pub held : (k : ℕ) → n ≤ k → k < length c.nodes → held_depth depths k ≡ depth_at (model c) k
   pub none : length c.nodes ≡ 0 → held_depth depths 0 ≡ 0
-
--- nothing was passed
-pub passed_none : (c : RawCard) (depths : List ℕ) (n : ℕ) → length c.nodes ≤ n → held_depth depths 0 ≡ 0 → Passed c depths n
-passed_none c depths n l z = record { held = λ k a b. absurd (omega arith); none = λ e. z }
-
--- everything was passed
-pub passed_all : (c : RawCard) (depths : List ℕ) → Passed c depths 0 → held_depth depths 0 ≡ depth_at (model c) 0
-passed_all c depths p =
-    elim (eq-zero-or-pos (length c.nodes)) [
-      | inl z ↦ p.none z ∙ sym (ap (λ (x : ℕ). depth_in x (moves_of (model c)) 0) (model_nodes c ∙ z))
-      | inr h ↦ p.held 0 (omega arith) h
-    ]
 
 module _ (c : RawCard) (ok : Descending c) where
   targets : (n m : ℕ) → n < length (model c).nodes → MoveOf (model c) n m

@@ -10,15 +10,6 @@ from_next : (c : Card) (d : ℕ → ℕ) (left next i after : ℕ) → left ≡ 
 from_next c d left next i after p q =
     ap (λ (x : ℕ). deepest_from c d x i) p ∙ ap (λ (x : ℕ). max (target_depth d (move_at c i).target) (deepest_from c d next x)) (sym q)
 
--- nothing was found, and all moves are left
-pub targets_none : (c : Card) (d : ℕ → ℕ) (count first : ℕ) → max 0 (deepest_from c d (count - 0) (first + 0)) ≡ deepest_from c d count first
-targets_none c d count first =
-    let p : count - 0 ≡ count = omega arith in
-    let q : first + 0 ≡ first = omega arith in
-    let e : deepest_from c d (count - 0) (first + 0) ≡ deepest_from c d count first =
-    ap (λ (x : ℕ). deepest_from c d x (first + 0)) p ∙ ap (λ (x : ℕ). deepest_from c d count x) q in
-    omega arith
-
 -- one move more
 pub targets_more : (c : Card) (d : ℕ → ℕ) (count first k found t more all : ℕ) → k < count
     → t ≡ target_depth d (move_at c (first + k)).target → more ≡ max found t
@@ -26,10 +17,4 @@ pub targets_more : (c : Card) (d : ℕ → ℕ) (count first k found t more all 
     → max more (deepest_from c d (count - (k + 1)) (first + (k + 1))) ≡ all
 targets_more c d count first k found t more all l e large inv =
     let n = from_next c d (count - k) (count - (k + 1)) (first + k) (first + (k + 1)) (omega arith) (omega arith) in
-    omega arith
-
--- no moves are left
-pub targets_end : (c : Card) (d : ℕ → ℕ) (left i found all : ℕ) → left ≡ 0 → max found (deepest_from c d left i) ≡ all → found ≡ all
-targets_end c d left i found all z inv =
-    let e : deepest_from c d left i ≡ 0 = ap (λ (x : ℕ). deepest_from c d x i) z in
     omega arith

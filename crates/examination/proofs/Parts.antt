@@ -19,7 +19,6 @@ use Rattle.marking.specs.Checks.{checks}
 use Rattle.marking.proofs.Judging.{judged}
 use Rattle.examination.specs.declared.examine.Examined.{Examined}
 use Rattle.examination.specs.declared.fault.MarkFault.{MarkFault}
-use Rattle.examination.specs.declared.fault.MarkFault.TheVariants.{Card}
 use Rattle.examination.specs.Faults.{from_text}
 use Rattle.examination.specs.Examined.{bad_card, sized, judged_for, enough_slots, examines, examined_as}
 
@@ -69,10 +68,6 @@ module _ (n m k : ℕ) (text : List ℕ) (c : RawCard) (enough : Ok tt ≡ enoug
 
     checked : checks k (game_of (view s)) (model c) ≡ judge (game_of (view s)) (model c)
     checked = judged k (game_of (view s)) (model c) (ltb-false k 2048 long.2)
-
-    pub card_refused : (f : CardFault) (r : Result Examined MarkFault) → IsErrAnd r (λ y. y ≡ Card f)
-        → Err (fault_of f) ≡ checks k (game_of (view s)) (model c) → examined_as r ≡ examines n m k text c
-    card_refused f r h e = handed (Card f) r h ∙ ap (sized (view s)) (e ∙ checked) ∙ sym from_view
 
     pub passed : (a : Marked) → Ok (marked_as a) ≡ checks k (game_of (view s)) (model c)
         → (environment : ℕ) → environment ≡ (game_of (view s)).environment → (system : ℕ) → system ≡ (game_of (view s)).system

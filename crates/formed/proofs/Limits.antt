@@ -1,5 +1,5 @@
 -- What the limits of counts and kind say of a card's first conditions.
-use Rattle.std.proofs.Common.{◌≡◌, ℕ, Bool, true, false, cond, ◌||◌, eqb, length, None, Ok, Err, Option, Result, sym, refl, ap, ◌∙◌, arith}
+use Rattle.std.proofs.Common.{◌≡◌, ℕ, Bool, true, false, cond, ◌||◌, eqb, length, None, Ok, Err, Option, Result, refl, ◌∙◌, arith}
 use Rattle.temporal.specs.Game.{Spec}
 use Rattle.tableau.specs.Conditions.{Fault, fault_at}
 use Rattle.tableau.specs.Judge.{judged_by}
@@ -7,8 +7,7 @@ use Rattle.records.specs.Raw.{RawCard, model}
 use Rattle.card.specs.Trailer.{refused_field}
 use Rattle.card.specs.Limits.{formulas_right, labels_right, nodes_right, moves_right, kind_right, unless, wrong_count}
 use Rattle.card.proofs.Model.{model_formulas, model_nodes, model_moves}
-use Rattle.faults.specs.declared.card.CardFault.{CardFault}
-use Rattle.judged.specs.Judged.{judgment, Judges}
+use Rattle.judged.specs.Judged.{judgment}
 use Rattle.formed.specs.Conditions.{count_conditions}
 
 -- kinds 1 and 2 are the kinds from 1 to 2
@@ -40,7 +39,3 @@ counts_judged spec c =
     (moves_right (model_moves c i)) (kind_limits c.kind i))
     ∙ first_wrong (formulas_right (length c.formulas)) (labels_right (length c.labels)) (nodes_right (length c.nodes))
     (moves_right (length c.moves)) (kind_right c.kind)
-
-pub refusal_judges : (spec : Spec) (c : RawCard) (r : Result (Unit {0}) CardFault)
-    → r ≡ refused_field (wrong_count c) → Judges spec (model c) count_conditions r
-refusal_judges spec c r e = ap judgment e ∙ sym (counts_judged spec c)

@@ -7,7 +7,7 @@ use Rattle.tableau.specs.Conditions.{Condition, kept, Fault, fault}
 use Rattle.tableau.specs.Judge.{judged_by}
 use Rattle.faults.specs.declared.card.CardFault.{CardFault}
 use Rattle.judged.specs.Judged.{fault_of, judgment}
-use Rattle.judged.proofs.Walks.{walked, walk_start, walk_pass, walk_fail, walk_end, group_pass, group_fail}
+use Rattle.judged.proofs.Walks.{walked, walk_pass, walk_fail, walk_end, group_pass, group_fail}
 
 -- the judge's answer on the conditions of n places from place k on
 abbrev pub judged_from : (ℕ → Condition) → ℕ → ℕ → Spec → Card → Result (Unit {0}) Fault
@@ -18,9 +18,6 @@ abbrev pub Left : (ℕ → Condition) → ℕ → ℕ → Spec → Card → Type
 Left g n k spec c = judged_from g n k spec c ≡ judged_by spec c (map g (span n 0))
 
 module _ (g : ℕ → Condition) (n : ℕ) (spec : Spec) (c : Card) where
-  pub left_start : Left g n 0 spec c
-  left_start = walk_start (kept spec c) fault g n 0
-
   module _ (k : ℕ) (left : Left g n k spec c) where
     pub left_pass : k < n → kept spec c (g k) ≡ true → Left g n (k + 1) spec c
     left_pass l e = sym (walk_pass (kept spec c) fault g n 0 k l (ap (λ j. kept spec c (g j)) (zero-add k) ∙ e)) ∙ left

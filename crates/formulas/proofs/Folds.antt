@@ -2,7 +2,6 @@
 use Rattle.std.proofs.Common.{◌≡◌, ℕ, zero, suc, ◌+◌, ◌<◌, Bool, true, List, [], ◌∷◌, ◌++◌, length, get_or, Some, fold, sym, refl, ap, ◌∙◌, arith}
 use Rattle.std.specs.List.{slice_get}
 use Rattle.std.proofs.lemmas.List.{get_or_append_left, get_or_at, length_push}
-use Rattle.std.proofs.lemmas.Option.{slice_get-get_or}
 
 abbrev pub step : {N T : Type 0} → (List T → N → T) → List T → N → List T
 step grow ts n = ts ++ grow ts n ∷ []
@@ -50,15 +49,6 @@ module _ {N T : Type 0} (grow : List T → N → T) (d : T) (below : ℕ → N �
   pub built_at : (ns : List N) (i : ℕ) (n : N) → slice_get ns i ≡ Some n → below i n ≡ true
       → get_or (fold (step grow) [] ns) i d ≡ grow (fold (step grow) [] ns) n
   built_at ns i n e b = at_from [] ns i i n (omega arith) e b
-
--- a place that has something is within the list
-pub nth_within : {X : Type 0} (xs : List X) (i : ℕ) (x : X) → slice_get xs i ≡ Some x → i < length xs
-nth_within [] i x e = let z : ◌≡◌ {A = ℕ} 0 1 = cc in absurd (omega arith)
-nth_within (y ∷ xs) zero x e = omega arith
-nth_within (y ∷ xs) (suc i) x e = let h = nth_within xs i x e in omega arith
-
-pub nth_is : {X : Type 0} (xs : List X) (i : ℕ) (x d : X) → slice_get xs i ≡ Some x → get_or xs i d ≡ x
-nth_is xs i x d e = let h = slice_get-get_or xs i d (nth_within xs i x e) in cc
 
 pub nth_more : {X : Type 0} (xs ys : List X) (i : ℕ) (x : X) → slice_get xs i ≡ Some x → slice_get (xs ++ ys) i ≡ Some x
 nth_more [] ys i x e = let z : ◌≡◌ {A = ℕ} 0 1 = cc in absurd (omega arith)

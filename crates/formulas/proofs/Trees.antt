@@ -2,7 +2,7 @@
 use Rattle.std.proofs.Common.{◌≡◌, ℕ, zero, suc, ◌+◌, ◌<◌, ◌≤◌, Bool, true, false, cond, ◌&&◌, ltb, List, [], ◌∷◌, ◌++◌, length, get_or, Some, sym, refl, ap, ◌∙◌, subst, arith}
 use Rattle.std.specs.List.{slice_get}
 use Rattle.std.proofs.lemmas.Bool.{and_parts, and_from, ltb-true, lt-ltb}
-use Rattle.std.proofs.lemmas.Option.{slice_get-get_or}
+use Rattle.std.proofs.lemmas.Option.{slice_get-get_or, slice_get_within}
 use Rattle.temporal.specs.Formula.{Formula as Tree, bot, conj, disj, next, always, eventually, same}
 use Rattle.temporal.specs.Parts.{◌∈◌, Once}
 use Rattle.temporal.proofs.Lists.{at_member, place, cast}
@@ -11,7 +11,7 @@ use Rattle.formulas.specs.declared.Formula.{Formula}
 use Rattle.formulas.specs.declared.Formula.TheVariants as entry
 use Rattle.formulas.specs.Trees.{grow, trees, parts_below, ordered_from, ordered, place_of, entry_of}
 use Rattle.index.specs.Keyed.{NotIn}
-use Rattle.formulas.proofs.Folds.{Alike, built_at, fold_append, fold_length, nth_within}
+use Rattle.formulas.proofs.Folds.{Alike, built_at, fold_append, fold_length}
 
 alike : Alike grow bot parts_below
 alike ts us entry.False i b h = refl
@@ -78,11 +78,14 @@ pub trees_push : (es : List Formula) (e : Formula) → trees (es ++ e ∷ []) �
 trees_push es e = fold_append grow [] es (e ∷ [])
 
 -- each tree is built of the whole list of trees
+pub tree_built : (es : List Formula) (i : ℕ) (e : Formula) → ordered es ≡ true → slice_get es i ≡ Some e → get_or (trees es) i bot ≡ grow (trees es) e
+tree_built es i e o n = built_at grow bot parts_below alike es i e n (ordered_at es i e o n)
+
 pub tree_at_lem : (es : List Formula) (i : ℕ) (e : Formula) → ordered es ≡ true → slice_get es i ≡ Some e
     → slice_get (trees es) i ≡ Some (grow (trees es) e)
 tree_at_lem es i e o n =
-    let l : i < length (trees es) = omega (arith, trees_length es, nth_within es i e n) in
-    slice_get-get_or (trees es) i bot l ∙ ap Some (built_at grow bot parts_below alike es i e n (ordered_at es i e o n))
+    let l : i < length (trees es) = omega (arith, trees_length es, slice_get_within es i e n) in
+    slice_get-get_or (trees es) i bot l ∙ ap Some (tree_built es i e o n)
 
 -- ── the entry of a tree ──
 pub placed : (ys : List Tree) (a : ℕ) → Once ys → a < length ys → place_of (get_or ys a bot) ys ≡ a

@@ -3,10 +3,11 @@ use Rattle.std.proofs.Common.{◌≡◌, ℕ, zero, suc, ◌+◌, ◌%◌, ◌<�
 use Rattle.std.specs.List.{slice_get}
 use Rattle.std.proofs.lemmas.List.Sums.{sum_by-cons, sum_by-set, count_by-le-length}
 use Rattle.std.proofs.lemmas.Option.{get_or_from_slice_get, slice_get_within}
+use Rattle.std.proofs.lemmas.Bool.{cases_eq}
 use Rattle.index.specs.declared.Entry.{Entry}
 use Rattle.index.specs.declared.Slot.{Slot}
 use Rattle.index.specs.Keyed.{place, home, slot_of, free_slot, Held, AllHeld, filled, Reached, Indexed, VacantAt, Inserted, Extends, OneInsertion, Along, StopsAt, StopsNowhere}
-use Rattle.index.proofs.Probes.{slots_apart, same_slot, free_not_held, three, same_or, back, back_lt, back_place, nth_one, nth_set_same, nth_set_other, nth_append_left, nth_append_at, nth_append_cases}
+use Rattle.index.proofs.Probes.{slots_apart, same_slot, free_not_held, three, back, back_lt, back_place, nth_one, nth_set_same, nth_set_other, nth_append_left, nth_append_at, nth_append_cases}
 
 -- the number of filled slots, one more
 filled_set
@@ -64,7 +65,7 @@ kept_held {K} slots p v j hv old s e =
     let is : v ≡ s = nth_one (set slots p v) p j v s (sym q) (nth_set_same slots p v lt) e in
     subst (λ (x : Slot K). Held x) is hv)
     (λ ne. old s (sym (nth_set_other slots p j v ne) ∙ e))
-    (same_or j p)
+    (cases_eq j p)
 
 -- the way to a key that was there stays
 reach_kept
@@ -125,7 +126,7 @@ entered {K} code slots ks k p m va ix is few =
         (nth_one (set slots p (slot_of k m)) p j (slot_of k m) (slot_of q i) (sym e) (nth_set_same slots p (slot_of k m) within) at) in
         ap (slice_get (ks ++ k ∷ [])) (sym same.1 ∙ is) ∙ nth_append_at ks k ∙ ap Some same.0)
         (λ ne. nth_append_left ks (k ∷ []) i q (ix.sound j i q (sym (nth_set_other slots p j (slot_of k m) ne) ∙ at)))
-        (same_or j p)
+        (cases_eq j p)
 
 -- an insertion of the next number extends the list of keys
 pub inserted_indexed

@@ -70,9 +70,6 @@ back_place n h j hn jn = grind (arith, back, place)
 pub three : (a b : ℕ) → (a < b) ⊎ ((a ≡ b) ⊎ (b < a))
 three a b = grind arith
 
-pub same_or : (a b : ℕ) → (a ≡ b) ⊎ (a ≡ b → ⊥)
-same_or a b = grind arith
-
 -- one place holds one element
 pub nth_one : {A : Type 0} (xs : List A) (i j : ℕ) (x y : A) → i ≡ j → slice_get xs i ≡ Some x → slice_get xs j ≡ Some y → x ≡ y
 nth_one xs i j x y e a b = let s : Some x ≡ Some y = sym a ∙ ap (slice_get xs) e ∙ b in cc

@@ -66,9 +66,6 @@ module _ {A E : Type 0} (ok : A → Bool) (f : A → E) where
     abbrev pub grouped : ℕ → Result (Unit {0}) E
     grouped k = checked ok f (concat_map g (span (n - k) (i + k)))
 
-    pub groups_start : grouped 0 ≡ checked ok f (concat_map g (span n i))
-    groups_start = ap (λ ks. checked ok f (concat_map g ks)) (span_start n i)
-
     pub groups_pass : (k : ℕ) → k < n → checked ok f (g (i + k)) ≡ Ok tt → grouped k ≡ grouped (k + 1)
     groups_pass k l e =
         ap (λ ks. checked ok f (concat_map g ks)) (span_at n i k l)

@@ -9,7 +9,7 @@ use Rattle.temporal.specs.Parts.{member}
 use Rattle.formulas.specs.declared.Formula.{Formula}
 use Rattle.formulas.specs.declared.Formula.TheVariants as entry
 use Rattle.formulas.specs.Trees.{grow, trees, parts_below, ordered}
-use Rattle.formulas.proofs.Trees.{tree_at_lem, trees_length, ordered_at}
+use Rattle.formulas.proofs.Trees.{tree_built, ordered_at}
 use Rattle.index.specs.Keyed.{Found}
 use Rattle.index.specs.declared.Slot.{Slot}
 use Rattle.records.specs.declared.FormulaRecord.{FormulaRecord}
@@ -82,9 +82,6 @@ lacks_one ts (f ∷ fs) zero l h = and_left (member f ts) (has_all ts fs) h
 lacks_one ts (f ∷ fs) (suc k) l h = and_right (member f ts) (has_all ts fs) (lacks_one ts fs k (omega arith) h)
 
 -- ── the entry at a place ──
-some_is : {A : Type 0} (x y : A) → Some x ≡ Some y → x ≡ y
-some_is x y e = cc
-
 -- e is entry i, x the entry with its parts by their numbers, and f the record of x
 pub numbered_at : (es : List Formula) (slots : List (Slot FormulaKey)) (numbers : List ℕ) (i : ℕ) (e x : Formula) (f : FormulaRecord) (o : Option ℕ)
     → i < length es → e ≡ get_or es i e → x ≡ renumbered numbers e → f ≡ recorded x → Listed slots f o
@@ -92,9 +89,7 @@ pub numbered_at : (es : List Formula) (slots : List (Slot FormulaKey)) (numbers 
     → Placed (formulas_of rs) (get_or (trees es) i bot) o
 numbered_at es slots numbers i e x f o l at is entered found rs ready in_order below =
     let here : slice_get es i ≡ Some e = slice_get-get_or es i e l ∙ ap Some (sym at) in
-    let lt : i < length (trees es) = omega (arith, trees_length es) in
-    let tree : get_or (trees es) i bot ≡ grow (trees es) e = some_is _ _ (sym (slice_get-get_or (trees es) i bot lt) ∙ tree_at_lem es i e in_order here) in
-    subst (λ (t : Tree). Placed (formulas_of rs) t o) (sym tree)
+    subst (λ (t : Tree). Placed (formulas_of rs) t o) (sym (tree_built es i e in_order here))
     (entry_placed rs ready.listing (trees es) numbers i below o e (ordered_at es i e in_order here)
     (subst (λ (g : FormulaRecord). Found (map key_of rs) (key_of g) o) (entered ∙ ap recorded is) (found rs ready)))
 

@@ -94,12 +94,3 @@ slots_enough n h = go (ltb n 2048) refl h
     go : (b : Bool) → ltb n 2048 ≡ b → ◌≡◌ {A = Result (Unit {0}) Buffer} (Ok tt) (cond b (Err buffer.Index) (Ok tt)) → 2048 ≤ n
     go true e h = let z : ◌≡◌ {A = ℕ} 0 1 = cc in absurd (omega arith)
     go false e h = ltb-false n 2048 e
-
-pub short_handed : (n : ℕ) (spec : Spec) (c : Card) (r : Result Marked CardFault) (b : Buffer) → IsErrAnd r (λ y. y ≡ Short b) → Err b ≡ enough n
-    → checked_as r ≡ checks n spec c
-short_handed n spec c r b h e = handed_check (Short b) r h ∙ go (ltb n 2048) refl e
-  where
-    go : (t : Bool) → ltb n 2048 ≡ t → ◌≡◌ {A = Result (Unit {0}) Buffer} (Err b) (cond t (Err buffer.Index) (Ok tt))
-        → Err (fault_of (Short b)) ≡ checks n spec c
-    go true t e = let w : b ≡ buffer.Index = cc in ap (λ x. Err (fault_of (Short x))) w ∙ too_short n spec c t
-    go false t e = let z : ◌≡◌ {A = ℕ} 0 1 = cc in absurd (omega arith)

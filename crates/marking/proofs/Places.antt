@@ -4,6 +4,7 @@ use Rattle.std.specs.Option.{ok_or}
 use Rattle.temporal.specs.Formula.{Formula, bot, Reading, same}
 use Rattle.temporal.specs.Game.{Spec}
 use Rattle.temporal.proofs.Same.{same_sound}
+use Rattle.temporal.proofs.Truth.{both_ways}
 use Rattle.tableau.specs.Moves.{Move, Target}
 use Rattle.tableau.specs.Met.{rests}
 use Rattle.tableau.specs.Card.{CardKind, opened, closed, kind_of, label_at, move_at}
@@ -17,7 +18,6 @@ use Rattle.records.specs.Raw.{RawCard, model, move_of, target_of}
 use Rattle.records.specs.Table.{formula_of}
 use Rattle.card.proofs.Model.{model_nodes}
 use Rattle.covered.proofs.Formulas.{different_formulas, first_formula}
-use Rattle.covered.proofs.Holding.{same_test}
 use Rattle.rested.specs.declared.key.FormulaKey.{FormulaKey}
 use Rattle.rested.specs.Listing.{Ready}
 use Rattle.rested.specs.Rests.{AllRested}
@@ -58,7 +58,7 @@ module _ (spec : Spec) (c : RawCard) (known : Labelled spec c) where
   zero_false l n =
       let t = known.table in
       let z = first_formula spec c.formulas t in
-      same_test (eqb l 0) (same (formula_of c.formulas l) bot)
+      both_ways (eqb l 0) (same (formula_of c.formulas l) bot)
       (λ e. ap (λ f. same f bot) (ap (formula_of c.formulas) (eqb-true l 0 e) ∙ z))
       (λ e. eq-eqb l 0 (different_formulas spec c.formulas t l 0 n (omega (arith, t.two)) (same_sound (formula_of c.formulas l) bot e ∙ sym z)))
 

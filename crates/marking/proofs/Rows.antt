@@ -1,10 +1,10 @@
 -- The conditions of a node, by its record.
-use Rattle.std.proofs.Common.{◌≡◌, ℕ, ◌+◌, ◌<◌, Bool, List, [], ◌∷◌, ◌++◌, map, length, sym, ap, ◌∙◌, subst, arith}
+use Rattle.std.proofs.Common.{◌≡◌, ℕ, ◌+◌, ◌<◌, Bool, List, [], ◌∷◌, ◌++◌, map, length, sym, ap, subst, arith}
 use Rattle.temporal.specs.Formula.{Formula}
 use Rattle.temporal.specs.Game.{Spec}
 use Rattle.tableau.specs.Lists.{span, concat_map}
-use Rattle.tableau.specs.Card.{Node, kind_of, node_at, move_at, label_of}
-use Rattle.tableau.specs.Conditions.{Condition, kept, keeps_covering, label_kept, covering_kept, target_kept, at_move, at_node, obligations}
+use Rattle.tableau.specs.Card.{Node, node_at, label_of}
+use Rattle.tableau.specs.Conditions.{Condition, label_kept, covering_kept, target_kept, at_move, at_node, obligations}
 use Rattle.tableau.specs.Judge.{judged_by}
 use Rattle.records.specs.declared.FormulaRecord.{FormulaRecord}
 use Rattle.records.specs.declared.NodeRecord.{NodeRecord}
@@ -12,8 +12,7 @@ use Rattle.records.specs.Raw.{RawCard, model, node_of}
 use Rattle.records.specs.Table.{Listed, formula_of}
 use Rattle.card.proofs.Model.{model_moves}
 use Rattle.covered.specs.Meaning.{Members}
-use Rattle.card.specs.declared.variables.Variables.{Variables}
-use Rattle.coverings.specs.Coverings.{DecidesCovering, Ready as Splitting}
+use Rattle.coverings.specs.Coverings.{Ready as Splitting}
 use Rattle.steps.specs.Sets.{MarksObligations, label_in}
 use Rattle.steps.proofs.Roots.{label_same, listed_as, members_as, obligations_listed}
 use Rattle.marking.specs.declared.terms.Terms.{Terms}
@@ -37,12 +36,6 @@ pub node_is : (spec : Spec) (c : RawCard) (x : NodeRecord) (n : ℕ) → node_of
 node_is spec c x n e = ap (λ (y : Node). judged_by spec (model c) (node_by n y)) e
 
 -- ── the covering ──
-pub covering_judged : (spec : Spec) (c : RawCard) (variables : Variables) (x : NodeRecord) (n : ℕ) → Splitting c spec variables x
-    → node_of x ≡ node_at (model c) n → (b : Bool) → DecidesCovering c variables x b → b ≡ kept spec (model c) (covering_kept n)
-covering_judged spec c variables x n ready e b decides =
-    decides spec ready
-    ∙ ap (λ (y : Node). keeps_covering (kind_of (model c)) spec (map (move_at (model c)) (span y.move_count y.first_move))) e
-
 module _ (spec : Spec) (c : RawCard) (terms : Terms) (k : Known spec c terms)
     (x : NodeRecord) (n : ℕ) (e : node_of x ≡ node_at (model c) n) where
   pub splitting : n < length c.nodes → Splitting c spec terms.variables x

@@ -17,9 +17,8 @@ use Rattle.formulas.proofs.Trees.{tree_at_lem, tree_absent, trees_push, trees_le
 use Rattle.index.specs.declared.Slot.{Slot}
 use Rattle.index.specs.Keyed.{Indexed, NotIn}
 use Rattle.normal.specs.declared.builder.Builder.{Builder}
-use Rattle.normal.specs.declared.operand.Operand.{Operand}
 use Rattle.normal.specs.Operands.{place_of}
-use Rattle.normal.specs.Building.{entries_of, listed, Sound, recalled, Added, Remembers}
+use Rattle.normal.specs.Building.{entries_of, listed, Sound, Added}
 
 pub nth_in : {X : Type 0} (xs : List X) (i : ℕ) (x : X) → slice_get xs i ≡ Some x → x ∈ xs
 nth_in [] i x e = let z : ◌≡◌ {A = ℕ} 0 1 = cc in absurd (omega arith)
@@ -146,13 +145,3 @@ same_place false false i j e = (refl, omega arith)
 -- with k at a place of the memory
 abbrev pub noted : Builder → ℕ → ℕ → Builder
 noted b at k = record { entries = b.entries; count = b.count; numbers = set b.numbers at (Some k) }
-
-pub remembers : (b : Builder) (o : Operand) (k at : ℕ) → at ≡ place_of o.sign o.node → Remembers b o k (noted b at k)
-remembers b o k at e = record { kept = refl; memory = go }
-  where
-    go : (s : Bool) (i j : ℕ) → recalled (noted b at k) s i ≡ Some j
-        → ((s ≡ o.sign) × (i ≡ o.node) × (j ≡ k)) ⊎ (recalled b s i ≡ Some j)
-    go s i j h = elim (set_some b.numbers at k (place_of s i) j h) [
-      | inl p ↦ let q = same_place s o.sign i o.node (p.0 ∙ e) in inl (q.0, q.1, p.1)
-      | inr q ↦ inr q
-    ]

@@ -2,13 +2,14 @@
 use Rattle.std.proofs.Common.{not, ◌≡◌, ℕ, ◌<◌, ◌≤◌, Bool, true, false, ltb, List, length, get_or, Some, None, Option, sym, refl, ap, ◌∙◌, subst, inl, inr, arith}
 use Rattle.std.specs.List.{slice_get}
 use Rattle.std.proofs.lemmas.Bool.{and_from, lt-ltb}
+use Rattle.std.proofs.lemmas.Option.{slice_get_within, get_or_from_slice_get}
 use Rattle.temporal.specs.Formula.{Formula as Tree, bot, top, lit, constant}
 use Rattle.temporal.specs.Parts.{put, enter, Closed}
 use Rattle.temporal.proofs.Parts.{put_adds, enter_adds, enter_closed, enter_extends, enter_longer, put_longer}
 use Rattle.nodes.specs.declared.node.Node.{Node}
 use Rattle.formulas.specs.declared.Formula.{Formula}
 use Rattle.formulas.specs.Trees.{grow, parts_below}
-use Rattle.formulas.proofs.Folds.{nth_within, nth_is, nth_more}
+use Rattle.formulas.proofs.Folds.{nth_more}
 use Rattle.index.specs.declared.Slot.{Slot}
 use Rattle.normal.specs.declared.builder.Builder.{Builder}
 use Rattle.normal.specs.declared.operand.Operand.{Operand}
@@ -90,7 +91,7 @@ whole slots2 b2 e (Some k) p q g l a = whole_some p q g l a
 pub number_below : {slots : List (Slot Formula)} {b : Builder} (k : ℕ) {f : Tree} → Sound slots b → slice_get (listed b) k ≡ Some f
     → ltb k b.count ≡ true
 number_below {slots} {b} k {f} s h =
-    lt-ltb k b.count (omega (arith, nth_within (listed b) k f h, listed_length slots b s))
+    lt-ltb k b.count (omega (arith, slice_get_within (listed b) k f h, listed_length slots b s))
 
 -- ── a literal ──
 grow_literal : (ys : List Tree) (s : Bool) (v : ℕ) → grow ys (literal_of s v) ≡ lit s v
@@ -116,7 +117,7 @@ module _ (T : Tree → Tree) (enters : (ys : List Tree) (f : Tree) → enter ys 
       → Ready ns slots b → Entered ns slots1 b f b1 k → w ≡ T f → grow (listed b1) e ≡ T (get_or (listed b1) k bot)
       → Adds slots2 b1 e b2 r → Enters ns slots2 b w b2 r
   one_enters {ns} {slots} {slots1} {b} {b1} {f} {w} {k} slots2 b2 e r p d t g a =
-      whole slots2 b2 e r p d.ready (g ∙ ap T (nth_is (listed b1) k f bot d.here) ∙ sym t)
+      whole slots2 b2 e r p d.ready (g ∙ ap T (get_or_from_slice_get (listed b1) k f bot d.here) ∙ sym t)
       (ap (enter (listed b)) t ∙ enters (listed b) f ∙ (λ j. put (sym d.list j) (sym t j))) a
 
 -- ── two parts ──
@@ -164,7 +165,7 @@ module _ (op : Junction) (f g : Tree) {w : Tree} (whole_is : w ≡ whole_of op f
         let lists : listed b2 ≡ enter (enter (listed b) f) g = d2.list ∙ ap (λ (ys : List Tree). enter ys g) d1.list in
         whole slots3 b3 e n p d2.ready
         (ap (grow (listed b2)) e_is ∙ grow_joined op (listed b2) l r
-        ∙ (λ j. whole_of op (nth_is (listed b2) l f bot left_at j) (nth_is (listed b2) r g bot d2.here j)) ∙ sym whole_is)
+        ∙ (λ j. whole_of op (get_or_from_slice_get (listed b2) l f bot left_at j) (get_or_from_slice_get (listed b2) r g bot d2.here j)) ∙ sym whole_is)
         (ap (enter (listed b)) whole_is ∙ enter_whole op (listed b) f g ∙ (λ j. put (sym lists j) (sym whole_is j))) a
 
 -- ── memory ──

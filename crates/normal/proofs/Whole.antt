@@ -4,6 +4,7 @@ use Rattle.std.specs.List.{slice_get}
 use Rattle.std.specs.Option.{ok_or}
 use Rattle.std.proofs.lemmas.List.{get_or-replicate, get_or_past, length-replicate}
 use Rattle.std.proofs.lemmas.Bool.{cases_lt}
+use Rattle.std.proofs.lemmas.Option.{slice_get_within}
 use Rattle.temporal.specs.Formula.{Formula as Tree, bot, top}
 use Rattle.temporal.specs.Parts.{put, enter, Closed}
 use Rattle.temporal.proofs.Parts.{constants_closed, enter_longer}
@@ -12,7 +13,6 @@ use Rattle.formulas.specs.declared.Formula.{Formula}
 use Rattle.formulas.specs.declared.Formula.TheVariants as entry
 use Rattle.formulas.specs.Entries.{entry_code}
 use Rattle.formulas.specs.Trees.{grow, trees}
-use Rattle.formulas.proofs.Folds.{nth_within}
 use Rattle.index.specs.declared.Slot.{Slot}
 use Rattle.index.specs.Keyed.{Indexed}
 use Rattle.normal.specs.declared.builder.Builder.{Builder}
@@ -134,8 +134,8 @@ module _ (ns : List Node) (p q : ℕ) (slots : List (Slot Formula)) (b : Builder
 module _ (ns : List Node) (p q : ℕ) (slots : List (Slot Formula)) (b : Builder) (i j : ℕ) (w : Whole ns p q slots b i j) where
   pub whole_rooted : (i < b.count) × (j < b.count)
   whole_rooted = (
-    omega (arith, nth_within (listed b) i (formula_of ns (operand p true)) w.initial, listed_length slots b w.sound),
-    omega (arith, nth_within (listed b) j (formula_of ns (operand q true)) w.safety, listed_length slots b w.sound),
+    omega (arith, slice_get_within (listed b) i (formula_of ns (operand p true)) w.initial, listed_length slots b w.sound),
+    omega (arith, slice_get_within (listed b) j (formula_of ns (operand q true)) w.safety, listed_length slots b w.sound),
   )
 
   pub whole_short : length (parts_for ns p q) ≤ 256

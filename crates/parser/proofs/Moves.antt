@@ -1,19 +1,17 @@
 -- How a reader goes on: a token, a node, a part and then another.
-use Rattle.std.proofs.Common.{◌≡◌, ℕ, ◌+◌, ◌<◌, ◌≤◌, true, ◌&&◌, ltb, List, length, get_or, take, IsErrAnd, Ok, Err, Result, sym, refl, ap, ◌∙◌, subst, arith}
-use Rattle.std.proofs.lemmas.Bool.{and_from, lt-ltb, cond-true}
+use Rattle.std.proofs.Common.{◌≡◌, ℕ, ◌+◌, ◌<◌, ◌≤◌, true, ◌&&◌, ltb, List, length, IsErrAnd, Ok, Err, Result, sym, refl, ap, ◌∙◌, subst, arith}
+use Rattle.std.proofs.lemmas.Bool.{and_from, lt-ltb}
 use Rattle.faults.specs.declared.TextFault.{TextFault}
 use Rattle.index.specs.declared.Slot.{Slot}
 use Rattle.names.specs.declared.Name.{Name}
 use Rattle.nodes.specs.declared.node.Node.{Node}
 use Rattle.nodes.specs.declared.node.Node.TheVariants as node
-use Rattle.nodes.specs.Trees.{trees_of}
-use Rattle.grammar.specs.Grammar.{Out, good, stop, named}
-use Rattle.temporal.specs.Written.{Written, truth, variable}
-use Rattle.lexer.specs.declared.token.Lexeme.{Lexeme}
+use Rattle.grammar.specs.Grammar.{Out, good, stop}
+use Rattle.temporal.specs.Written.{Written}
 use Rattle.parser.specs.declared.reader.Reader.{Reader}
 use Rattle.parser.specs.declared.reader.Part.{Part}
 use Rattle.parser.specs.declared.table.Names.{Names}
-use Rattle.parser.specs.Naming.{names_of, Known, Has}
+use Rattle.parser.specs.Naming.{names_of, Known}
 use Rattle.parser.specs.Reading.{tree_at, state_at, Ready, Went, Reads, Pushed}
 
 module _ {slots : List (Slot Name)} {s : Reader} {at : ℕ} (r : Ready slots s at) where
@@ -143,26 +141,3 @@ pub good_is :
     ≡ names →
     good t (record { at = n; names = names }) ≡ good (tree_at s p.root) (state_at s p.next)
 good_is s p t n names e h k = λ i. good (sym e i) (record { at = sym h i; names = sym k i })
-
--- a variable's name is declared first, which leaves the nodes, and then its node is added
-pub variable_read :
-    {text : List ℕ} {slots slots' : List (Slot Name)} {s s₁ s' : Reader} {at : ℕ} (x : Lexeme) {name : Name} {v : ℕ} {p : Part} →
-    s₁.nodes ≡ s.nodes → s₁.count ≡ s.count → Ready slots s at → at ≤ x.from → x.from < x.next → x.next ≤ length text →
-    Has s.names name slots' s₁.names v → Pushed s₁ (node.Variable v) x.next s' p →
-    (named name x (state_at s at) ≡ good (tree_at s' p.root) (state_at s' p.next)) × Went 0 text at s s' slots' p
-variable_read {text} {slots} {slots'} {s} {s₁} {s'} {at} x {name} {v} {p} nodes count r a b d h p' =
-    let r₁ : Ready slots' s₁ at = record { few = omega (arith, r.few, count); known = h.known } in
-    let w = went_node r₁ (omega arith) d p' in
-    let same : (i : ℕ) → tree_at s₁ i ≡ tree_at s i = λ i j. get_or (trees_of (take (count j) (nodes j))) i truth in (
-      cond-true _ _ _ (lt-ltb _ _ h.few)
-          ∙ good_is s' p _ _ _ (p'.top ∙ ap variable h.variable) p'.next (ap names_of p'.names ∙ h.names),
-      record {
-        onward = w.onward;
-        in_text = w.in_text;
-        few = omega (arith, w.few, count);
-        root = w.root;
-        grown = omega (arith, w.grown, count);
-        kept = λ i lt. w.kept i (omega (arith, lt, count)) ∙ same i;
-        known = w.known;
-      },
-    )

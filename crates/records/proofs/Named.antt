@@ -6,18 +6,7 @@ use Rattle.formulas.specs.declared.Formula.{Formula}
 use Rattle.formulas.specs.declared.Formula.TheVariants as entry
 use Rattle.records.specs.declared.FormulaRecord.{FormulaRecord}
 use Rattle.records.specs.declared.kind.UnknownKind.{UnknownKind}
-use Rattle.records.specs.Kinds.{named, NamedBack}
-
-pub named_back : NamedBack
-named_back entry.False = refl
-named_back entry.True = refl
-named_back (entry.Variable v) = refl
-named_back (entry.Negated v) = refl
-named_back (entry.And a b) = refl
-named_back (entry.Or a b) = refl
-named_back (entry.Next n a) = refl
-named_back (entry.Always n m a) = refl
-named_back (entry.Eventually n m a) = refl
+use Rattle.records.specs.Kinds.{named}
 
 -- a kind past the last
 pub no_kind : {X : Type 0} (k : ℕ) (x0 x1 x2 x3 x4 x5 x6 x7 x8 none : X) → 9 ≤ k → by_kind k x0 x1 x2 x3 x4 x5 x6 x7 x8 none ≡ none

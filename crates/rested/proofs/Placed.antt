@@ -1,21 +1,13 @@
 -- How the place of a formula's rest comes from the places of its parts' rests.
-use Rattle.std.proofs.Common.{◌≡◌, ℕ, Bool, true, false, ◌&&◌, List, [], ◌∷◌, ◌++◌, get_or, Some, None, Option, sym, refl, ap, ◌∙◌, subst}
+use Rattle.std.proofs.Common.{◌≡◌, ℕ, true, ◌&&◌, List, [], ◌∷◌, ◌++◌, get_or, Some, None, Option, sym, refl, ap, ◌∙◌, subst}
 use Rattle.std.proofs.lemmas.Bool.{and_from, and_left, and_right}
 use Rattle.temporal.specs.Formula.{Formula, bot, Reading, rest}
 use Rattle.temporal.specs.Parts.{member}
 use Rattle.temporal.proofs.Lists.{at_member, cast}
 use Rattle.temporal.proofs.Same.{member_tells}
-use Rattle.tableau.specs.Lists.{all}
 use Rattle.tableau.specs.Met.{met}
+use Rattle.tableau.proofs.Tests.{all_append}
 use Rattle.rested.specs.Rests.{has_all, Placed, Rested}
-
-all_append : {A : Type 0} (p : A → Bool) (xs ys : List A) → all p (xs ++ ys) ≡ (all p xs && all p ys)
-all_append p [] ys = refl
-all_append p (x ∷ xs) ys = ap (λ b. p x && b) (all_append p xs ys) ∙ sym (and_assoc (p x) (all p xs) (all p ys))
-  where
-    and_assoc : (a b c : Bool) → ((a && b) && c) ≡ (a && (b && c))
-    and_assoc true b c = refl
-    and_assoc false b c = refl
 
 pub has_append : (ts fs gs : List Formula) → has_all ts (fs ++ gs) ≡ (has_all ts fs && has_all ts gs)
 has_append ts fs gs = all_append (λ f. member f ts) fs gs

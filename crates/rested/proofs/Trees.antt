@@ -1,5 +1,6 @@
 -- The trees of a list in form: each is built of those of its parts, and different entries are different trees.
-use Rattle.std.proofs.Common.{◌≡◌, ℕ, suc, ◌<◌, ◌≤◌, true, false, List, [], ◌∷◌, map, length, sym, refl, ap, ◌∙◌, arith}
+use Rattle.std.proofs.Common.{◌≡◌, ℕ, ◌<◌, ◌≤◌, true, false, List, [], map, length, sym, refl, ap, ◌∙◌, arith}
+use Rattle.std.proofs.lemmas.List.{length-map}
 use Rattle.temporal.specs.Formula.{Formula, bot, top, lit, conj, disj, next, always, eventually, shape, kind, other}
 use Rattle.tableau.specs.Card.{Entry, Card, build}
 use Rattle.tableau.proofs.Trees.{length_trees, GoodList, first_kind, trees_good}
@@ -26,17 +27,13 @@ rebuilt (eventually n m f) = refl
 rebuild : (i : ℕ) (e : Entry) (x y t : Formula) → Read i e x y t → t ≡ build e.kind e.variable e.n e.m x y
 rebuild i e x y t r = sym (rebuilt t) ∙ (λ j. build (r.kind j) (r.variable j) (r.n j) (r.m j) (r.one j) (r.two j))
 
-length_map : {A B : Type 0} (f : A → B) (xs : List A) → length (map f xs) ≡ length xs
-length_map f [] = refl
-length_map f (x ∷ xs) = ap suc (length_map f xs)
-
 -- a card with these formulas and nothing else
 abbrev card_with : List FormulaRecord → Card
 card_with rs = record { kind = 2; formulas = map entry_of rs; labels = []; nodes = []; moves = [] }
 
 module _ (rs : List FormulaRecord) (ok : InForm rs) where
   long : length (map entry_of rs) ≡ length rs
-  long = length_map entry_of rs
+  long = length-map rs entry_of
 
   good : GoodList ok.spec (card_with rs)
   good = record {

@@ -1,7 +1,7 @@
 -- From what parsing and normal form give to what reading promises.
-use Rattle.std.proofs.Common.{◌≡◌, ℕ, suc, ◌+◌, ◌<◌, ◌≤◌, Bool, true, false, ◌&&◌, ◌||◌, ltb, leb, List, [], ◌∷◌, ◌++◌, length, get_or, Some, sym, refl, ap, ◌∙◌, subst, inl, inr, arith}
+use Rattle.std.proofs.Common.{◌≡◌, ℕ, suc, ◌+◌, ◌<◌, ◌≤◌, Bool, true, false, ◌&&◌, ◌||◌, ltb, leb, List, [], ◌∷◌, ◌++◌, length, Some, sym, refl, ap, ◌∙◌, subst, inl, inr, arith}
 use Rattle.std.specs.List.{slice_get}
-use Rattle.std.proofs.lemmas.Option.{slice_get-get_or}
+use Rattle.std.proofs.lemmas.Option.{get_or_from_slice_get, slice_get_within}
 use Rattle.std.proofs.lemmas.Bool.{and_from, lt-ltb, le-leb}
 use Rattle.temporal.specs.Formula.{Formula as Tree, bot, top, Fine, Numbered}
 use Rattle.temporal.specs.Game.{WellFormed}
@@ -14,8 +14,7 @@ use Rattle.names.specs.declared.Name.{Name}
 use Rattle.formulas.specs.declared.Formula.{Formula}
 use Rattle.formulas.specs.declared.Formula.TheVariants as entry
 use Rattle.formulas.specs.Trees.{grow, trees, ordered}
-use Rattle.formulas.proofs.Folds.{nth_within}
-use Rattle.formulas.proofs.Trees.{tree_at_lem, trees_length}
+use Rattle.formulas.proofs.Trees.{tree_built, trees_length}
 use Rattle.grammar.specs.Numbering.{environment_names, system_names}
 use Rattle.grammar.specs.Sections.{Contents, formed, form_of}
 use Rattle.grammar.specs.Shows.{Derives, FineContents}
@@ -60,14 +59,10 @@ all_keep_lem : (ne ns : ℕ) (es : List Formula) → ((i : ℕ) (e : Formula) �
 all_keep_lem ne ns [] h = refl
 all_keep_lem ne ns (e ∷ es) h = and_from (keeps ne ns e) (all_keep ne ns es) (h 0 e refl) (all_keep_lem ne ns es (λ i d n. h (suc i) d n))
 
-some_is : {A : Type 0} (x y : A) → Some x ≡ Some y → x ≡ y
-some_is x y e = cc
-
 tree_in : (es : List Formula) (i : ℕ) (e : Formula) → ordered es ≡ true → slice_get es i ≡ Some e → grow (trees es) e ∈ trees es
 tree_in es i e o n =
-    let lt : i < length (trees es) = omega (arith, trees_length es, nth_within es i e n) in
-    let is : get_or (trees es) i bot ≡ grow (trees es) e = some_is _ _ (sym (slice_get-get_or (trees es) i bot lt) ∙ tree_at_lem es i e o n) in
-    subst (λ (f : Tree). f ∈ trees es) is (at_member (trees es) i bot lt)
+    let lt : i < length (trees es) = omega (arith, trees_length es, slice_get_within es i e n) in
+    subst (λ (f : Tree). f ∈ trees es) (tree_built es i e o n) (at_member (trees es) i bot lt)
 
 -- ── contents that were read, as a table of entries ──
 -- what parsing and normal form give: the names and entries of contents c, and the numbers of its two formulas
@@ -107,7 +102,7 @@ module _ (text : List ℕ) (c : Contents) (read : form_of text ≡ formed c) (na
   pub at : (k : ℕ) (f : Tree) → slice_get (formulas_of c) k ≡ Some f → formula_at (tabled_view names es i s) k ≡ f
   at k f n =
       let m : slice_get (trees es) k ≡ Some f = ap (λ fs. slice_get fs k) t.trees_are ∙ n in
-      some_is _ _ (sym (slice_get-get_or (trees es) k bot (nth_within (trees es) k f m)) ∙ m)
+      get_or_from_slice_get (trees es) k f bot m
 
   pub initial_is : (game_of (tabled_view names es i s)).initial ≡ initial_of c
   initial_is = at i (initial_of c) t.initial_at
@@ -137,8 +132,8 @@ module _ (text : List ℕ) (c : Contents) (read : form_of text ≡ formed c) (na
       let F : Tree → Type 0 = λ f. Fine (length (environment_names names)) (length (system_names names)) f in
       let in_trees : (k : ℕ) (f : Tree) → slice_get (formulas_of c) k ≡ Some f → f ∈ trees es = λ k f n.
       let m : slice_get (trees es) k ≡ Some f = ap (λ fs. slice_get fs k) t.trees_are ∙ n in
-      let lt = nth_within (trees es) k f m in
-      subst (λ (g : Tree). g ∈ trees es) (some_is _ _ (sym (slice_get-get_or (trees es) k bot lt) ∙ m)) (at_member (trees es) k bot lt) in
+      let lt = slice_get_within (trees es) k f m in
+      subst (λ (g : Tree). g ∈ trees es) (get_or_from_slice_get (trees es) k f bot m) (at_member (trees es) k bot lt) in
       base_wellformed (game_of (tabled_view names es i s)) third_is
       (subst F (sym initial_is) (names_fine (initial_of c) (in_trees i (initial_of c) t.initial_at)))
       (subst F (sym safety_is) (names_fine (safety_of c) (in_trees s (safety_of c) t.safety_at)))

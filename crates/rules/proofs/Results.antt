@@ -21,6 +21,7 @@ use Rattle.parser.specs.declared.parsed.Parsed.{Parsed}
 use Rattle.parser.specs.Naming.{names_of}
 use Rattle.parser.specs.Parsing.{Holds, Answers, Parses}
 use Rattle.grammar.specs.Sections.{Contents, Form, formed, refused, form_of}
+use Rattle.grammar.proofs.Outcomes.{never_formed, same_contents}
 use Rattle.grammar.proofs.Reading.{reads_what_is_derived}
 use Rattle.rules.specs.declared.specification.Specification.{Specification}
 use Rattle.rules.specs.Fields.{view_from}
@@ -38,20 +39,6 @@ pub record Promised (n m : ℕ) (text : List ℕ) (r : Result View Fault) : Type
   pub game : StatesGame r
 
 -- ── the definition, case by case ──
-formed_is : {c d : Contents} → formed c ≡ formed d → c ≡ d
-formed_is {c = c} e = ap (contents c) e
-  where
-    contents : Contents → Form → Contents
-    contents c (formed d) = d
-    contents c (refused f) = c
-
-not_both : {f : TextFault} {c : Contents} → refused f ≡ formed c → ⊥
-not_both {f} {c} e = subst is_refused e tt
-  where
-    is_refused : Form → Type 0
-    is_refused (formed c) = ⊥
-    is_refused (refused f) = Unit {0}
-
 module _ (n m : ℕ) (text : List ℕ) where
   roomy : 2048 ≤ n → 2048 ≤ m → reads_with n m text ≡ reads text
   roomy a b =
@@ -79,19 +66,11 @@ module _ (n m : ℕ) (text : List ℕ) where
     game = tt;
   }
 
-  pub short_formulas : ltb m 2048 ≡ true → Promised n m text (Err (Short buffer.Index))
-  short_formulas h = record {
-    value = sym (few_formulas h);
-    derived = λ a b. let k = ltb-true m 2048 h in absurd (omega (arith, b, k));
-    meaning = tt;
-    game = tt;
-  }
-
   -- a refused text
   pub text_refused : (f : TextFault) → 2048 ≤ n → 2048 ≤ m → form_of text ≡ refused f → Promised n m text (Err (Text f))
   text_refused f a b e = record {
     value = sym (roomy a b ∙ ap (viewed (length text)) e);
-    derived = λ _ _ c d. absurd (not_both (sym e ∙ (reads_what_is_derived text c).1 d));
+    derived = λ _ _ c d. absurd (never_formed (sym e ∙ (reads_what_is_derived text c).1 d));
     meaning = tt;
     game = tt;
   }
@@ -102,7 +81,7 @@ module _ (n m : ℕ) (text : List ℕ) where
   too_many c a b e h = record {
     value = sym (roomy a b ∙ ap (viewed (length text)) e
         ∙ ap (λ x. cond x (Err (Text (record { reason = reason.Formulas; place = length text }))) (Ok (view_of c))) (lt-ltb 256 (length (formulas_of c)) h));
-    derived = λ _ _ d k. subst (λ (x : Contents). 256 < length (formulas_of x)) (formed_is (sym e ∙ (reads_what_is_derived text d).1 k)) h;
+    derived = λ _ _ d k. subst (λ (x : Contents). 256 < length (formulas_of x)) (same_contents (sym e ∙ (reads_what_is_derived text d).1 k)) h;
     meaning = tt;
     game = tt;
   }

@@ -18,7 +18,7 @@ use Rattle.temporal.proofs.Runs.{base_wellformed}
 use Rattle.formulas.specs.declared.Formula.{Formula}
 use Rattle.formulas.specs.declared.Formula.TheVariants as entry
 use Rattle.formulas.specs.Trees.{grow, trees, parts_below, ordered, place_of, entry_of}
-use Rattle.formulas.proofs.Trees.{tree_at_lem, trees_length, ordered_at}
+use Rattle.formulas.proofs.Trees.{tree_built, trees_length, ordered_at}
 use Rattle.grammar.specs.Numbering.{environment_names, system_names}
 use Rattle.grammar.specs.Sections.{Contents, Form, formed, refused, form_of}
 use Rattle.rules.specs.declared.specification.Specification.{Specification}
@@ -135,9 +135,6 @@ module _ (ts fs : List Tree) (i : ℕ) (le : i ≤ length fs) (below : (k : ℕ)
 abbrev entries : List Tree → List Formula
 entries fs = map (entry_of fs) fs
 
-some_is : {A : Type 0} (x y : A) → Some x ≡ Some y → x ≡ y
-some_is x y e = cc
-
 tree_back : (fs : List Tree) → ordered (entries fs) ≡ true → (n i : ℕ) → i < n → i < length fs → get_or (trees (entries fs)) i bot ≡ get_or fs i bot
 tree_back fs o zero i l h = absurd (omega arith)
 tree_back fs o (suc n) i l h =
@@ -146,8 +143,7 @@ tree_back fs o (suc n) i l h =
     let e = get_or es i entry.False in
     let is : e ≡ entry_of fs (get_or fs i bot) = get_or-map (entry_of fs) fs i bot entry.False h in
     let here : slice_get es i ≡ Some (entry_of fs (get_or fs i bot)) = slice_get-get_or es i entry.False (omega arith) ∙ ap Some is in
-    let lt : i < length (trees es) = omega (arith, trees_length es) in
-    some_is _ _ (sym (slice_get-get_or (trees es) i bot lt) ∙ tree_at_lem es i _ o here)
+    tree_built es i _ o here
     ∙ grow_back (trees es) fs i (omega arith) (λ k m. tree_back fs o n k (omega arith) (omega arith)) (get_or fs i bot) (ordered_at es i _ o here)
 
 trees_back : (fs : List Tree) → ordered (entries fs) ≡ true → trees (entries fs) ≡ fs

@@ -1,7 +1,7 @@
 -- A table of entries whose trees are known is known itself.
 use Rattle.std.proofs.Common.{◌≡◌, ℕ, ◌<◌, ◌≤◌, true, List, map, length, get_or, Some, sym, ap, ◌∙◌, subst, arith}
 use Rattle.std.specs.List.{slice_get}
-use Rattle.std.proofs.lemmas.Option.{slice_get-get_or}
+use Rattle.std.proofs.lemmas.Option.{slice_get-get_or, get_or_from_slice_get, slice_get_within}
 use Rattle.std.proofs.lemmas.List.{ext_get_or, length-map, get_or-map}
 use Rattle.temporal.specs.Formula.{Formula as Tree, bot}
 use Rattle.temporal.specs.Parts.{Once}
@@ -9,14 +9,10 @@ use Rattle.temporal.proofs.Parts.{parts_once}
 use Rattle.names.specs.declared.Name.{Name}
 use Rattle.formulas.specs.declared.Formula.{Formula}
 use Rattle.formulas.specs.declared.Formula.TheVariants as entry
-use Rattle.formulas.specs.Trees.{grow, trees, ordered, place_of, entry_of}
-use Rattle.formulas.proofs.Folds.{nth_within}
-use Rattle.formulas.proofs.Trees.{placed, entry_back, tree_at_lem, trees_length, ordered_at, below_more}
+use Rattle.formulas.specs.Trees.{trees, ordered, place_of, entry_of}
+use Rattle.formulas.proofs.Trees.{placed, entry_back, tree_built, trees_length, ordered_at, below_more}
 use Rattle.grammar.specs.Sections.{Contents}
 use Rattle.rules.specs.Read.{initial_of, safety_of, formulas_of, view_of}
-
-some_is : {A : Type 0} (x y : A) → Some x ≡ Some y → x ≡ y
-some_is x y e = cc
 
 -- the entry at a place is the entry of its tree
 entry_at_lem : (es : List Formula) (i : ℕ) → ordered es ≡ true → Once (trees es) → i < length es
@@ -24,10 +20,8 @@ entry_at_lem : (es : List Formula) (i : ℕ) → ordered es ≡ true → Once (t
 entry_at_lem es i o u h =
     let e = get_or es i entry.False in
     let at : slice_get es i ≡ Some e = slice_get-get_or es i entry.False h in
-    let lt : i < length (trees es) = omega (arith, trees_length es) in
-    let le : i ≤ length (trees es) = omega arith in
-    let tree : get_or (trees es) i bot ≡ grow (trees es) e = some_is _ _ (sym (slice_get-get_or (trees es) i bot lt) ∙ tree_at_lem es i e o at) in
-    ap (entry_of (trees es)) tree ∙ entry_back (trees es) e u (below_more i (length (trees es)) e le (ordered_at es i e o at))
+    let le : i ≤ length (trees es) = omega (arith, trees_length es) in
+    ap (entry_of (trees es)) (tree_built es i e o at) ∙ entry_back (trees es) e u (below_more i (length (trees es)) e le (ordered_at es i e o at))
 
 pub entries_back : (es : List Formula) → ordered es ≡ true → Once (trees es) → map (entry_of (trees es)) (trees es) ≡ es
 entries_back es o u =
@@ -39,8 +33,8 @@ entries_back es o u =
 -- a formula's place in a list without doubles is its number
 pub place_is : (ys : List Tree) (i : ℕ) (f : Tree) → Once ys → slice_get ys i ≡ Some f → i ≡ place_of f ys
 place_is ys i f u n =
-    let lt : i < length ys = nth_within ys i f n in
-    let e : get_or ys i bot ≡ f = some_is _ _ (sym (slice_get-get_or ys i bot lt) ∙ n) in
+    let lt : i < length ys = slice_get_within ys i f n in
+    let e : get_or ys i bot ≡ f = get_or_from_slice_get ys i f bot n in
     sym (ap (λ g. place_of g ys) (sym e) ∙ placed ys i u lt)
 
 -- what is known of the names, the trees of the entries, and the two numbers is all that a view shows

@@ -1,7 +1,7 @@
 -- Marking the formulas of a label one by one.
 use Rattle.std.proofs.Common.{◌≡◌, ℕ, zero, suc, ◌+◌, ◌<◌, Bool, false, List, [], ◌∷◌, ◌++◌, map, length, get_or, replicate, sym, refl, ap, ◌∙◌, subst, append_assoc, add-one, arith}
 use native.Mathlib.Decide.{dec_lt}
-use Rattle.std.proofs.lemmas.List.{get_or_past}
+use Rattle.std.proofs.lemmas.List.{get_or_past, map-append}
 use Rattle.temporal.specs.Formula.{Formula}
 use Rattle.temporal.specs.Game.{Spec}
 use Rattle.temporal.proofs.Lists.{map_in, cast}
@@ -23,13 +23,9 @@ span_last (suc k) i =
     let e : suc i + k ≡ i + suc k = omega arith in
     ap (λ ks. i ∷ ks) (span_last k (suc i)) ∙ ap (λ j. i ∷ (span k (suc i) ++ (j ∷ []))) e
 
-pub map_append : {A B : Type 0} (f : A → B) (xs ys : List A) → map f (xs ++ ys) ≡ map f xs ++ map f ys
-map_append f [] ys = refl
-map_append f (x ∷ xs) ys = ap (λ zs. f x ∷ zs) (map_append f xs ys)
-
 -- one place more
 pub map_span_last : {A : Type 0} (f : ℕ → A) (k i : ℕ) → map f (span (k + 1) i) ≡ map f (span k i) ++ (f (i + k) ∷ [])
-map_span_last f k i = rw add-one (ap (map f) (span_last k i) ∙ map_append f (span k i) ((i + k) ∷ []))
+map_span_last f k i = rw add-one (ap (map f) (span_last k i) ∙ map-append f (span k i) ((i + k) ∷ []))
 
 pub none_marked : (n i : ℕ) → get_or (replicate n false) i false ≡ false
 none_marked zero zero = refl

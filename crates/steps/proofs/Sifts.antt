@@ -8,6 +8,7 @@ use Rattle.temporal.specs.Game.{Spec}
 use Rattle.temporal.proofs.Lists.{in_map, map_in, cast, at_member}
 use Rattle.temporal.proofs.Same.{member_tells}
 use Rattle.temporal.proofs.Tells.{self_tells}
+use Rattle.temporal.proofs.Truth.{both_ways}
 use Rattle.tableau.specs.Lists.{all}
 use Rattle.tableau.specs.Cover.{covers}
 use Rattle.tableau.specs.Met.{met, rests}
@@ -18,7 +19,6 @@ use Rattle.covered.specs.Marks.{marked, mark}
 use Rattle.covered.specs.Meaning.{Members, Covers}
 use Rattle.covered.proofs.Spread.{mark_here, mark_keeps, mark_only, mark_length}
 use Rattle.covered.proofs.Formulas.{different_formulas, numbered, formula_count}
-use Rattle.covered.proofs.Holding.{same_test}
 use Rattle.rested.specs.Rests.{has_all, Rested, AllRested}
 use Rattle.steps.specs.Sets.{RestsOf}
 
@@ -141,7 +141,7 @@ module _ (spec : Spec) (rs : List FormulaRecord) (t : Table spec rs) (S : List F
           cast (p.3 ∙ ap (rest R) n.2 ∙ sym r.2) (at_member (formulas_of rs) p.0 bot (omega (arith, p.2, formula_count spec rs t)))
 
       rests_marked : Members rs (rests R S) out
-      rests_marked k l = same_test (marked out k) (member (formula_of rs k) (rests R S)) forth back
+      rests_marked k l = both_ways (marked out k) (member (formula_of rs k) (rests R S)) forth back
         where
           forth : marked out k ≡ true → member (formula_of rs k) (rests R S) ≡ true
           forth m =

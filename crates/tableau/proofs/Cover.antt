@@ -14,7 +14,7 @@ use Rattle.tableau.proofs.Tests.{any_out, any_in}
 
 -- ── held ──
 -- a member holds itself
-own_conjunct : (f : Formula) → f ∈ conjuncts f
+pub own_conjunct : (f : Formula) → f ∈ conjuncts f
 own_conjunct bot = first
 own_conjunct top = first
 own_conjunct (lit s i) = first
@@ -24,7 +24,7 @@ own_conjunct (next n f) = first
 own_conjunct (always n m f) = first
 own_conjunct (eventually n m f) = first
 
-conjunct_held : (S : List Formula) (f g : Formula) → f ∈ S → g ∈ conjuncts f → g ∈ held S
+pub conjunct_held : (S : List Formula) (f g : Formula) → f ∈ S → g ∈ conjuncts f → g ∈ held S
 conjunct_held [] f g m i = elim m [ ]
 conjunct_held (h ∷ S) f g first i = in_left (conjuncts f) (held S) g i
 conjunct_held (h ∷ S) f g (later m) i = in_right (conjuncts h) (held S) g (conjunct_held S f g m i)

@@ -74,7 +74,7 @@ below_tells p P h n =
     by_tells (all p (span n 0)) (span_tells p P h n 0) (λ f k l. f k (omega arith, omega arith)) (λ f k l. f k (omega arith))
 
 -- ── lists put together ──
-all_append : {A : Type 0} (p : A → Bool) (xs ys : List A) → all p (xs ++ ys) ≡ (all p xs && all p ys)
+pub all_append : {A : Type 0} (p : A → Bool) (xs ys : List A) → all p (xs ++ ys) ≡ (all p xs && all p ys)
 all_append p [] ys = refl
 all_append p (x ∷ xs) ys = go (p x) (all_append p xs ys)
   where

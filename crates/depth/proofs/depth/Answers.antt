@@ -1,12 +1,6 @@
-use Rattle.std.proofs.Common.{◌≡◌, ℕ, ◌+◌, ◌-◌, ◌<◌, length, refl, ◌∙◌, subst, arith, length-set}
-use Rattle.depth.proofs.Passes.{Passed, passed_none, passed_all, node_depth, passed_more}
+use Rattle.std.proofs.Common.{◌≡◌, ℕ, ◌+◌, ◌-◌, ◌<◌, length, ◌∙◌, subst, arith, length-set}
+use Rattle.depth.proofs.Passes.{Passed, node_depth, passed_more}
 use Rattle.depth.proofs.depth.Goals as goal
-
-pub loop-n-init : goal.loop-n-init
-loop-n-init g c = (
-  refl,
-  λ ok. passed_none (g.S.CardSource.card c.args.source.now) _ c.min-n.result (omega (arith, ok.few)) refl,
-)
 
 pub loop-n-preserved : goal.loop-n-preserved
 loop-n-preserved g c =
@@ -23,9 +17,3 @@ loop-n-preserved g c =
           passed_more raw ok c.loop-n.depths n c.above.result room before there
           (c.above.ensures ∙ node_depth raw ok c.loop-n.depths n c.deepest_target.result c.node_of-node.result c.node_of-node.ensures there before c.deepest_target.ensures),
     )
-
-pub returns : goal.returns
-returns g c ok =
-    let raw = g.S.CardSource.card c.args.source.now in
-    let z : c.loop-n.n ≡ 0 = omega arith in
-    passed_all raw c.loop-n.depths (subst (λ (x : ℕ). Passed raw c.loop-n.depths x) z (c.loop-n.invariant.1 ok))

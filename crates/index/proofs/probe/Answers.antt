@@ -1,4 +1,4 @@
-use Rattle.std.proofs.Common.{◌≡◌, ◌%◌, false, length, refl, sym, ap, ◌∙◌, subst, mod-lt, arith}
+use Rattle.std.proofs.Common.{◌≡◌, false, length, refl, sym, ap, ◌∙◌, subst, arith}
 use Rattle.std.proofs.lemmas.Fn.{says_at}
 use Rattle.std.proofs.lemmas.Iterator.Consumers.{YieldsList-turn, YieldsList-end}
 use Rattle.std.proofs.lemmas.List.{length_push}
@@ -8,14 +8,6 @@ use Rattle.std.specs.List.{slice_get}
 use Rattle.index.specs.Keyed.{Along, home}
 use Rattle.index.proofs.Probes.{walk, turned, along_more, order_length}
 use Rattle.index.proofs.probe.Goals as goal
-
-pub loop-at-init : goal.loop-at-init
-loop-at-init g c =
-    record {
-      within = omega (arith, c.in_ok-home.ensures.1, mod-lt c.code.result c.in_ok-home.ensures.0);
-      begun = c.in_ok-home.ensures.1 ∙ ap (λ x. x % length c.args.slots.now) c.code.ensures;
-      way = λ e s lt at. absurd (omega (arith, lt));
-    }
 
 pub offset_bounds-slots-at : goal.offset_bounds-slots-at
 offset_bounds-slots-at g c =

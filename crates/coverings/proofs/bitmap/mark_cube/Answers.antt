@@ -1,9 +1,9 @@
-use Rattle.std.proofs.Common.{ℕ, ◌-◌, ◌/◌, ◌^◌, ◌<◌, ◌≤◌, ltb, sym, refl, subst, arith, pow_pos, pow_mono}
-use lib.Bits.{bit_or, and_self, and_le_l, and_le_r, or_lt, xor_lt}
+use Rattle.std.proofs.Common.{ℕ, ◌-◌, ◌/◌, ◌^◌, ◌<◌, ◌≤◌, sym, refl, subst, arith, pow_pos, pow_mono}
+use lib.Bits.{bit_or, and_le_r, or_lt, xor_lt}
 use Rattle.coverings.specs.declared.cube.Cube.{Cube}
 use Rattle.coverings.specs.Bitmap.{free_high}
 use Rattle.coverings.proofs.Bits.{and_twice}
-use Rattle.coverings.proofs.Subsets.{Done, done_start, turn_stops, turn_next, turn_ends}
+use Rattle.coverings.proofs.Subsets.{turn_stops, turn_next, turn_ends}
 use Rattle.coverings.proofs.bitmap.mark_cube.Goals as goal
 
 free_lt : (high : ℕ) (cube : Cube) → high ≤ 10 → cube.mask < 2 ^ 16 → free_high high cube < 2 ^ 10
@@ -12,15 +12,6 @@ free_lt high cube h m =
     let a : 2 ^ high - 1 < 2 ^ 10 = omega (arith, pow_pos high) in
     let b : cube.mask / 64 < 2 ^ 10 = omega arith in
     xor_lt 10 (bit_or (2 ^ high - 1) (cube.mask / 64)) (cube.mask / 64) (or_lt 10 (2 ^ high - 1) (cube.mask / 64) a b) b
-
-pub subsets-init : goal.subsets-init
-subsets-init c = (
-  and_self c.free_high-free.result,
-  omega arith,
-  λ cube formed v f w.
-      subst (λ (k : ℕ). Done c.args.high cube formed c.args.words.now (ltb k) c.args.words.now) (sym f)
-      (done_start c.args.high cube formed c.args.words.now),
-)
 
 pub mark_word-requires : goal.mark_word-requires
 mark_word-requires c =
@@ -50,9 +41,6 @@ returns-then-rest-eq0 c = λ formed.
     (c.subsets.invariant.2 c.args.cube formed refl c.free_high-free.ensures c.low_word-word.ensures)
     c.mark_word.result c.mark_word.ensures.value c.mark_word.new.words c.mark_word.ensures.marks
     (omega arith) c.if-not-mark_word.false c.if-rest-eq0.true
-
-pub subsets-smaller : goal.subsets-smaller
-subsets-smaller c = omega (arith, and_le_l (c.subsets.rest - 1) c.free_high-free.result)
 
 pub subsets-preserved : goal.subsets-preserved
 subsets-preserved c =

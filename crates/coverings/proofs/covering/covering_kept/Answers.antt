@@ -17,11 +17,3 @@ returns-then-inputs_alike g c = λ spec ready.
     ∙ sym (ap (λ b. b && once System c.args.variables.system (moves_from card c.args.node))
     (sym c.inputs_alike.ensures ∙ c.if-inputs_alike.true))
     ∙ closed_kept card spec c.args.variables c.args.node ready c.in-Closed.ensures
-
-pub returns-else-inputs_alike : goal.returns-else-inputs_alike
-returns-else-inputs_alike g c = λ spec ready.
-    let card = g.S.CardSource.card c.args.source.now in
-    c.if-inputs_alike.false
-    ∙ sym (ap (λ b. b && once System c.args.variables.system (moves_from card c.args.node))
-    (sym c.inputs_alike.ensures ∙ c.if-inputs_alike.false))
-    ∙ closed_kept card spec c.args.variables c.args.node ready c.in-Closed.ensures

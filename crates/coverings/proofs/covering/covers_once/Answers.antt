@@ -7,16 +7,8 @@ use Rattle.coverings.specs.declared.cube.Cube.{Cube}
 use Rattle.coverings.specs.Cubes.{Formed, cube_of}
 use Rattle.coverings.specs.Bitmap.{Apart, Joined}
 use Rattle.coverings.specs.Coverings.{moves_from, once}
-use Rattle.coverings.proofs.Counts.{AllFormed, Counted, counted_start, counted_more, counted_stops, full_once, once_full, all_formed, once_tells}
+use Rattle.coverings.proofs.Counts.{AllFormed, Counted, counted_more, counted_stops, full_once, once_full, all_formed, once_tells}
 use Rattle.coverings.proofs.covering.covers_once.Goals as goal
-
-pub loop-k-init : goal.loop-k-init
-loop-k-init g c = (
-  c.new-marks.ensures.high,
-  λ formed.
-      counted_start c.args.side (g.S.CardSource.card c.args.source.now) c.args.node c.new-marks.result.high
-      c.new-marks.result.words c.new-marks.ensures.blank,
-)
 
 pub returns-then-not-mark : goal.returns-then-not-mark
 returns-then-not-mark g c = λ cubes.

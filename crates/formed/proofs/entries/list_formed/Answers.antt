@@ -1,26 +1,10 @@
 -- The loop stops at the first entry of bad form, and what is left of the conditions gives the answer.
-use Rattle.std.proofs.Common.{◌≡◌, ℕ, ◌+◌, length, drop, inl, sym, ap, ◌∙◌, subst, arith}
+use Rattle.std.proofs.Common.{ℕ, ◌+◌, length, drop, inl, sym, ap, ◌∙◌, subst, arith}
 use Rattle.records.specs.Raw.{model}
 use Rattle.card.proofs.Walk.{left_some, left_length, left_none}
 use Rattle.formed.specs.Conditions.{unformed_at}
-use Rattle.formed.proofs.Rows.{Left, left_start, left_pass, left_fail, left_end}
+use Rattle.formed.proofs.Rows.{Left, left_pass, left_fail, left_end}
 use Rattle.formed.proofs.entries.list_formed.Goals as goal
-
-pub loop-i-init : goal.loop-i-init
-loop-i-init g c =
-    let card = g.S.CardSource.card c.args.source.now in
-    let xs = g.E.Entry.listed card in
-    let made = c.into_iter-i-iterator.ensures.into_iter_gives in
-    let none : c.into_iter-i-iterator.result.count ≡ 0 = (λ j. (made j).count) ∙ c.enumerate-i-items.ensures.count in
-    let from = (λ j. (made j).iter) ∙ c.enumerate-i-items.ensures.source in
-    let all = (λ j. drop (from j).next (g.E.Entry.listed (g.S.CardSource.card (from j).source.now))) ∙ c.all_entries.ensures.all in (
-      (tt, tt, inl (omega (arith, none, ap length all, c.all_entries.ensures.few))),
-      tt,
-      all ∙ ap (λ (k : ℕ). drop k xs) (sym none),
-      λ spec h.
-          subst (λ (k : ℕ). Left g.E.Formed.condition (length xs) k spec (model card)) (sym none)
-          (left_start g.E.Formed.condition (length xs) spec (model card)),
-    )
 
 pub returns-then-not-is_formed : goal.returns-then-not-is_formed
 returns-then-not-is_formed g c = λ spec h.

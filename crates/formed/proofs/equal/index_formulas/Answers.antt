@@ -6,12 +6,9 @@ use Rattle.index.specs.Keyed.{Indexed, Extends}
 use Rattle.records.specs.declared.FormulaRecord.{FormulaRecord}
 use Rattle.rested.specs.Listing.{key_of, key_code}
 use Rattle.formed.specs.Conditions.{equal_at}
-use Rattle.formed.proofs.Rows.{left_start, left_pass, left_fail, left_end}
+use Rattle.formed.proofs.Rows.{left_pass, left_fail, left_end}
 use Rattle.formed.proofs.Entered.{record_at, new_missing, old_found, entered_more}
 use Rattle.formed.proofs.equal.index_formulas.Goals as goal
-
-pub loop-i-init : goal.loop-i-init
-loop-i-init c = λ few room. ((λ spec card e. left_start new_formula (length c.args.records.now) spec card), c.clear.ensures.model)
 
 pub loop-i-preserved : goal.loop-i-preserved
 loop-i-preserved c = λ few room.
@@ -51,10 +48,4 @@ returns-after-loop-i c = record {
       let rs = c.args.records.now in
       let inv = c.loop-i.invariant few (omega (arith, c.loop-i.auto.slots)) in
       subst (λ (xs : List FormulaRecord). Indexed key_code c.loop-i.slots (map key_of xs)) (take_all c.loop-i.i rs (omega arith)) inv.1;
-}
-
-pub returns-in_default : goal.returns-in_default
-returns-in_default c = record {
-  judged = λ few room. absurd (c.in_default.ensures (omega arith));
-  indexed = λ few room. absurd (c.in_default.ensures (omega arith));
 }

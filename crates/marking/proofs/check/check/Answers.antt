@@ -6,18 +6,8 @@ use Rattle.rules.proofs.Sound.{spec_sound}
 use Rattle.judged.specs.Judged.{fault_of}
 use Rattle.marking.specs.Checks.{checked_as, checks}
 use Rattle.marking.proofs.Listed.{initial_below, initial_is, known_here}
-use Rattle.marking.proofs.Judging.{before_fails, root_fails, nodes_fail, all_pass, depth_known, judged, meaning_of, handed_check, slots_enough, short_handed}
+use Rattle.marking.proofs.Judging.{before_fails, root_fails, nodes_fail, all_pass, depth_known, judged, meaning_of, handed_check, slots_enough}
 use Rattle.marking.proofs.check.check.Goals as goal
-
-pub returns-in_err-enough_slots : goal.returns-in_err-enough_slots
-returns-in_err-enough_slots g c =
-    let s = g.S.CardSource.card c.args.source.now in
-    let spec = game_of (view c.args.specification.now) in
-    let n = length c.args.slots.now in
-    let r = c.from_residual.result in
-    let v : checked_as r ≡ checks n spec (model s) =
-    short_handed n spec (model s) r c.in_err-enough_slots.field-0.0 c.from_residual.ensures.1 c.in_err-enough_slots.ensures in
-    record { value = v; meaning = meaning_of n spec (model s) (spec_sound c.args.specification.now).game (checked_as r) v }
 
 pub returns-in_err-listing : goal.returns-in_err-listing
 returns-in_err-listing g c =

@@ -1,14 +1,9 @@
 use Rattle.std.proofs.Common.{◌+◌, sym, ◌∙◌}
 use Rattle.tableau.specs.Conditions.{kept, fault, label_kept}
 use Rattle.records.specs.Raw.{model}
-use Rattle.judged.proofs.Walks.{walk_start, walk_pass, walk_fail, walk_end}
+use Rattle.judged.proofs.Walks.{walk_pass, walk_fail, walk_end}
 use Rattle.marking.proofs.Places.{refused, label_judged}
 use Rattle.marking.proofs.node_by_node.judge_labels.Goals as goal
-
-pub loop-k-init : goal.loop-k-init
-loop-k-init g c spec known kinds =
-    let s = g.S.CardSource.card c.args.source.now in
-    walk_start (kept spec (model s)) fault label_kept c.args.node.label_count c.args.node.first_label
 
 pub returns-then-not-label_kept : goal.returns-then-not-label_kept
 returns-then-not-label_kept g c spec known kinds =

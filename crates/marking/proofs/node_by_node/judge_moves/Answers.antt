@@ -2,14 +2,9 @@ use Rattle.std.proofs.Common.{sym, ◌∙◌}
 use Rattle.tableau.specs.Conditions.{kept, fault, at_move}
 use Rattle.records.specs.Raw.{model}
 use Rattle.judged.specs.Judged.{fault_of}
-use Rattle.judged.proofs.Walks.{groups_start, groups_pass, groups_fail, groups_end}
+use Rattle.judged.proofs.Walks.{groups_pass, groups_fail, groups_end}
 use Rattle.marking.proofs.Places.{handed}
 use Rattle.marking.proofs.node_by_node.judge_moves.Goals as goal
-
-pub loop-k-init : goal.loop-k-init
-loop-k-init g c spec n p =
-    let s = g.S.CardSource.card c.args.source.now in
-    groups_start (kept spec (model s)) fault (at_move n) c.args.node.move_count c.args.node.first_move
 
 pub returns-in_err-judge_move : goal.returns-in_err-judge_move
 returns-in_err-judge_move g c spec n p =

@@ -6,24 +6,9 @@ use Rattle.records.specs.Raw.{model}
 use Rattle.card.proofs.Model.{model_nodes, node_some}
 use Rattle.card.proofs.Walk.{left_some, left_length, left_none}
 use Rattle.judged.specs.Judged.{fault_of}
-use Rattle.judged.proofs.Walks.{grouped, groups_start, groups_pass, groups_fail, groups_end}
+use Rattle.judged.proofs.Walks.{grouped, groups_pass, groups_fail, groups_end}
 use Rattle.marking.proofs.Places.{handed}
 use Rattle.marking.proofs.node_by_node.judge_nodes.Goals as goal
-
-pub loop-n-init : goal.loop-n-init
-loop-n-init g c =
-    let s = g.S.CardSource.card c.args.source.now in
-    let made = c.into_iter-n-iterator.ensures.into_iter_gives in
-    let none : c.into_iter-n-iterator.result.count ≡ 0 = (λ j. (made j).count) ∙ c.enumerate-n-items.ensures.count in
-    let from = (λ j. (made j).iter) ∙ c.enumerate-n-items.ensures.source in
-    let all = (λ j. drop (from j).next (g.S.CardSource.card (from j).source.now).nodes) ∙ c.all_entries.ensures.all in (
-      (tt, tt, inl (omega (arith, none, ap length all, c.all_entries.ensures.few))),
-      tt,
-      all ∙ ap (λ (k : ℕ). drop k s.nodes) (sym none),
-      λ spec k.
-          subst (λ (i : ℕ). grouped (kept spec (model s)) fault (at_node (model s)) (length (model s).nodes) 0 i ≡ judged_by spec (model s) (at_nodes (model s)))
-          (sym none) (groups_start (kept spec (model s)) fault (at_node (model s)) (length (model s).nodes) 0),
-    )
 
 pub returns-in_err-judge_node : goal.returns-in_err-judge_node
 returns-in_err-judge_node g c spec k =

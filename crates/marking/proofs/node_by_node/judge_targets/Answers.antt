@@ -1,15 +1,10 @@
 use Rattle.std.proofs.Common.{◌+◌, sym, ◌∙◌}
 use Rattle.tableau.specs.Conditions.{kept, fault, target_kept}
 use Rattle.records.specs.Raw.{model}
-use Rattle.judged.proofs.Walks.{walk_start, walk_pass, walk_fail, walk_end}
+use Rattle.judged.proofs.Walks.{walk_pass, walk_fail, walk_end}
 use Rattle.marking.proofs.Places.{refused, target_judged}
 use Rattle.marking.proofs.node_by_node.judge_targets.Goals as goal
 use Rattle.card.specs.Named.{target_named}
-
-pub loop-k-init : goal.loop-k-init
-loop-k-init g c spec nodes kinds =
-    let s = g.S.CardSource.card c.args.source.now in
-    walk_start (kept spec (model s)) fault (target_kept c.args.n) c.args.node.move_count c.args.node.first_move
 
 pub returns-then-not-target_kept : goal.returns-then-not-target_kept
 returns-then-not-target_kept g c spec nodes kinds =

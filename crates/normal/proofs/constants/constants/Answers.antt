@@ -4,7 +4,7 @@ use Rattle.nodes.specs.declared.node.Node.TheVariants.{Constant}
 use Rattle.std.proofs.lemmas.List.{length-set}
 use Rattle.std.proofs.lemmas.Option.{slice_get-get_or}
 use Rattle.normal.specs.Constants.{constant_at}
-use Rattle.normal.proofs.Filled.{filled_none, filled_more, filled_at}
+use Rattle.normal.proofs.Filled.{filled_none, filled_more}
 use Rattle.normal.proofs.Places.{constant_step}
 use Rattle.normal.proofs.constants.constants.Goals as goal
 
@@ -25,6 +25,3 @@ loop-i-preserved c =
           (c.node_constant.ensures ∙ constant_step ns cs i n c.requires.ordered at c.loop-i.invariant.0),
       length-set c.loop-i.constants c.loop-i.i c.node_constant.result ∙ c.loop-i.invariant.1,
     )
-
-pub returns : goal.returns
-returns c i h = filled_at (constant_at c.args.nodes.now) None c.loop-i.constants c.loop-i.i i c.loop-i.invariant.0 (omega arith)

@@ -1,10 +1,10 @@
 use Rattle.std.proofs.Common.{◌≡◌, ℕ, ◌<◌, length, get_or, None, Option, sym, ap, ◌∙◌, arith}
 use Rattle.std.proofs.lemmas.List.{length-set, length-replicate, length_push, get_or-map}
-use Rattle.std.proofs.lemmas.Iterator.Consumers.{YieldsList-turn, YieldsList-end}
+use Rattle.std.proofs.lemmas.Iterator.Consumers.{YieldsList-turn}
 use Rattle.tableau.specs.Card.{no_entry}
 use Rattle.records.specs.Raw.{entry_of}
 use Rattle.records.specs.Table.{entry_at, formulas_of, formula_of}
-use Rattle.records.proofs.Turns.{turn, length-numbered, first_numbered}
+use Rattle.records.proofs.Turns.{turn, first_numbered}
 use Rattle.rested.specs.Rests.{Rested}
 use Rattle.rested.proofs.Memo.{all_none, filled_more, empty_more}
 use Rattle.rested.proofs.rest.rests.Goals as goal
@@ -34,15 +34,3 @@ loop-i-preserved g c =
       λ k m. empty_more memo i v (λ k m. c.loop-i.invariant.1 k (omega (arith, t.2))) k (omega (arith, m, more, t.2)),
       length-set memo i v ∙ c.loop-i.invariant.2,
     )
-
-pub returns : goal.returns
-returns g c =
-    let rs = c.args.records.now in
-    let e = YieldsList-end (first_numbered rs 1024 (cc) (cc) (cc))
-    c.loop-i.yielded _ c.loop-i.yielded_by _ _ c.in-None.is c.next.ensures.steps in
-    let n = e.1 ∙ length-numbered rs 1024 in
-    record {
-      rested = λ ready k h. c.loop-i.invariant.0 ready k (omega (arith, n, ready.listing.table.few));
-      past = λ k h. c.loop-i.invariant.1 k (omega (arith, n));
-      len = c.loop-i.invariant.2;
-    }

@@ -1,5 +1,4 @@
-use Rattle.std.proofs.Common.{◌≡◌, ℕ, List, ◌++◌, map, length, sym, ap, ◌∙◌, subst, append-nil, arith}
-use Rattle.temporal.specs.Formula.{Formula}
+use Rattle.std.proofs.Common.{◌≡◌, ℕ, ◌++◌, map, length, ap, ◌∙◌, subst, arith}
 use Rattle.tableau.specs.Lists.{span}
 use Rattle.tableau.specs.Card.{label_tree}
 use Rattle.records.specs.Raw.{model}
@@ -7,13 +6,6 @@ use Rattle.covered.specs.Meaning.{Members}
 use Rattle.covered.proofs.Spread.{mark_length}
 use Rattle.steps.proofs.Labels.{label_more}
 use Rattle.steps.proofs.sets.add_label.Goals as goal
-
-pub loop-k-init : goal.loop-k-init
-loop-k-init g c =
-    let s = g.S.CardSource.card c.args.source.now in (
-      c.told-marks,
-      λ spec known S h. subst (λ (T : List Formula). Members s.formulas T c.args.marks.now) (sym (append-nil S)) h,
-    )
 
 pub loop-k-preserved : goal.loop-k-preserved
 loop-k-preserved g c =
