@@ -7,6 +7,7 @@ use crate::marks::{is_marked, set_mark};
 use formulas::Formula;
 use records::FormulaRecord;
 
+// A number and the marks that it is looked up in are no one value: the marks are lent to each step in turn.
 /// Marks both parts of formula i, the record f, if it is marked and a conjunction.
 fn hold_parts(i: usize, f: FormulaRecord, marks: &mut [bool; 1024])
     ensures { marks.new ≡ spread i f marks.old }

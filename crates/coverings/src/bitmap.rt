@@ -7,6 +7,7 @@ use crate::cube::{Cube, low_word};
 /// The marks of the valuations of some variables, of which `high` stand above the low six.
 #[derive(Clone, Copy)]
 pub(crate) struct Bitmap {
+    // No heap: the words for the largest number of variables.
     words: [u64; 1024],
     high: usize,
     ghost small: { high ≤ 10 },

@@ -11,6 +11,7 @@ use card::source::CardSource;
 use card::variables::Variables;
 use records::{MoveRecord, NodeRecord};
 
+// A source and one of its nodes are no one value: the node is what is asked, and its source may be of any type.
 /// Does each valuation of one side's variables agree with exactly one of the node's moves?
 fn covers_once<S: CardSource>(source: &S, side: Side, variables: usize, node: NodeRecord) -> bool
     ensures { DecidesOnce side (S.card source.now) variables node result }

@@ -49,6 +49,7 @@ fn column_of(i: u8) -> u64
     }
 }
 
+// Both bits come from the cube's two masks as they are; an `Option` would be made for this call alone.
 /// The word of the valuations of the low six variables in which variable i has the value, or of all if it is not fixed.
 fn literal_word(i: u8, fixed: bool, value: bool) -> u64
     ensures { result ≡ literal_word i fixed value }

@@ -64,6 +64,7 @@ fn deepest_target<S: CardSource>(source: &S, node: NodeRecord, depths: &[u16; 10
 pub fn depth<S: CardSource>(source: &S) -> usize
     ensures { Descending (S.card source.now) → result ≡ depth_at (model (S.card source.now)) 0 }
 {
+    // No heap: an array for the largest list.
     let mut depths = [0; 1024];
     // Later nodes first: each node writes at its own number, and reads at those of its targets.
     for n in (0..source.node_count().min(NODES)).rev() {

@@ -11,6 +11,7 @@ pub enum Junction {
     Or,
 }
 
+// Each of these is a table of two lines; one function for all would be told both lines at each call.
 impl Junction {
     /// The junction itself, or where the sign is `false` the one that its negation has.
     pub fn under(self, sign: bool) -> Junction

@@ -197,6 +197,7 @@ impl Builder {
         }
     }
 
+    // The two parts of a formula are no one value; only the functions of the two-part connectives take both.
     /// Enters two nodes under a binary operator, or the negation of that.
     #[cycle(binary_build_enter_equivalence_pair_unary)]
     fn binary(

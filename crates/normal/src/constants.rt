@@ -108,6 +108,7 @@ pub fn constants(nodes: &[Node]) -> [Option<bool>; 1024]
     requires ordered { in_order nodes.now ≡ true }
     ensures { Known nodes.now result }
 {
+    // No heap: an array for the largest list.
     let mut constants = [None; 1024];
     for (i, node) in nodes.iter().enumerate() {
         constants[i] = node_constant(&constants, *node);

@@ -12,6 +12,7 @@ use Rattle.records.specs.Table.{entry_at, formulas_of, formula_of}
 use Rattle.rested.specs.Listing.{InForm}
 
 -- ── a formula is built of its shape ──
+-- by the card's `build`; the crate of formulas has the like of its own
 rebuilt : (f : Formula)
     → build (shape f).operator (shape f).variable (shape f).lower (shape f).upper (shape f).left (shape f).right ≡ f
 rebuilt bot = refl
