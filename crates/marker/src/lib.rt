@@ -83,3 +83,6 @@ pub fn mark(
     let specification = read(text, names, formulas)?;
     mark_file(&specification, bytes, records)
 }
+
+#[cfg(test)]
+mod tests;
