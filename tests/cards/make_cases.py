@@ -1,14 +1,18 @@
 #!/usr/bin/env python3
-"""Makes what the programs `mark` and `mark_cases` are run on by the gate: the eight worked cards, each with its rules text.
+"""Makes what the programs `mark` and `mark_cases` are run on by the gate: the eight worked cards, and cards on both sides of every limit, with every refusal.
 
-A card file is written here by the layout of docs/card.md, and shares no code with the library. The outcome of each card is the one that
-crate `worked_cards` proves of it.
+A card file is written here by the layout of docs/card.md, and shares no code with the library. The outcome of each worked card is the one that
+crate `worked_cards` proves of it; the outcomes of the others were worked out by hand, and the second marker (second_marker.py) has to agree with all of them.
 """
 import pathlib
 import shutil
 import struct
 
-CRATES = pathlib.Path(__file__).resolve().parents[2] / "crates"
+from limits import LIMITS
+from second_marker import mark
+
+TOP = pathlib.Path(__file__).resolve().parents[2]
+CRATES = TOP / "crates"
 P, S = 0, 16  # the variables p_e and s
 END = 65535
 FALSE, TRUE = (0, 0, 0, 0, 0, 0), (1, 0, 0, 0, 0, 0)
@@ -36,6 +40,10 @@ def later(n, a):
 
 def always(n, m, a):
     return (7, 0, a, 0, n, m)
+
+
+def eventually(n, m, a):
+    return (8, 0, a, 0, n, m)
 
 
 def card(kind, formulas, labels, nodes, moves):
@@ -95,6 +103,10 @@ OTHERS = [
     ("the_text_is_judged_first", b"s <-> ?", b"", f"refused 2 byte {rules(b's <-> ?').index(b'?')}"),
     ("an_empty_card_file", b"s", b"", "refused 8 list 4 number 10"),
 ]
+# the ticket gate of the samples: node 0 after a step without a ticket, where it stays closed, and node 1 after one with a ticket, where it opens
+GATE_FORMULAS = [not_of(S), not_of(P), of(S), eventually(0, 3, 4), disj(3, 5), of(P), later(1, 2), disj(7, 8), conj(6, 9), eventually(0, 2, 4), eventually(0, 1, 4)]
+GATE_MOVES = [(1, 0, 1, 0, 0), (1, 1, 1, 0, 1), (1, 0, 1, 1, 0), (1, 1, 1, 1, 1)]
+GATE = card(OPEN, GATE_FORMULAS, [2, 11], [(0, 1, 0, 2), (1, 1, 2, 2)], GATE_MOVES)
 
 
 def fresh(crate):
@@ -105,19 +117,25 @@ def fresh(crate):
 
 
 def main():
-    data, out = fresh("mark_cases"), []
-    for name, safety, file, line in CASES + OTHERS:
-        (data / f"{name}.rules").write_bytes(rules(safety))
+    data, pairs, out = fresh("mark_cases"), [], []
+    (TOP / "samples" / "gate.card").write_bytes(GATE)
+    sample = ("gate", "gate", (TOP / "samples" / "gate.rules").read_bytes(), GATE, "realizable nodes 2 moves 4")
+    worked = [(name, name, rules(safety), file, line) for name, safety, file, line in CASES + OTHERS]
+    for text_name, name, text, file, line in [*worked, sample, *LIMITS]:
+        assert mark(text, file) == line, (name, mark(text, file), line)
+        (data / f"{text_name}.rules").write_bytes(text)
         (data / f"{name}.card").write_bytes(file)
-        out += [f"case {name}.rules {name}.card", line]
-    (data / "cases.txt").write_text("".join(f"{name}.rules {name}.card\n" for name, _, _, _ in CASES + OTHERS))
+        pairs.append(f"{text_name}.rules {name}.card\n")
+        out += [f"case {text_name}.rules {name}.card", line]
+    assert len(set(pairs)) == len(pairs)
+    (data / "cases.txt").write_text("".join(pairs))
     (CRATES / "mark_cases" / "stdout").write_text("\n".join(out) + "\n")
     _, safety, file, line = CASES[1]
     data = fresh("mark")
     (data / "rules.txt").write_bytes(rules(safety))
     (data / "card.bin").write_bytes(file)
     (CRATES / "mark" / "stdout").write_text(line + "\n")
-    print(f"{len(CASES + OTHERS)} cases")
+    print(f"{len(pairs)} cases")
 
 
 if __name__ == "__main__":
