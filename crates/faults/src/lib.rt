@@ -3,7 +3,7 @@
 
 ghost use Rattle.std.specs.Prelude.{◌≡◌};
 ghost use Rattle.faults.specs.declared.Fault.TheVariants.{Text, Short};
-ghost use Rattle.faults.specs.Numbers.{reason_number, buffer_number, fault_number, fault_layer, fault_place};
+ghost use Rattle.faults.specs.Numbers.{reason_number, buffer_number, layer_number, fault_number, fault_layer, fault_place};
 
 pub mod card;
 
@@ -62,6 +62,14 @@ impl Reason {
 impl Buffer {
     pub fn number(self) -> u8
         ensures { result ≡ buffer_number self }
+    {
+        self as u8
+    }
+}
+
+impl Layer {
+    pub fn number(self) -> u8
+        ensures { result ≡ layer_number self }
     {
         self as u8
     }
