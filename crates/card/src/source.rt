@@ -9,6 +9,8 @@ use records::{FormulaRecord, MoveRecord, NodeRecord};
 pub trait CardSource {
     ghost card: { Self → RawCard };
 
+    // Each list has a count and an entry of its own, for entries have different types; `Entry` (module `entry`) is generic over them.
+
     // As a file holds it; `kind_of` says which kind it is.
     fn kind(&self) -> u16
         ensures { result ≡ (card self.now).kind };

@@ -51,6 +51,7 @@ pub fn examine<S: CardSource>(
     enough_slots(names, formulas, records)?;
     let specification = read(text, names, formulas)?;
     let marked = check(&specification, source, records)?;
+    // Two calls, whose contracts say the two fields; a function for both would say the same once more.
     Ok(Examined {
         variables: Variables {
             environment: specification.environment_count(),

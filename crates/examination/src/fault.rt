@@ -6,6 +6,7 @@ ghost use Rattle.examination.specs.Faults.{from_text, mark_fault_number, mark_fa
 use faults::card::CardFault;
 use faults::{Fault, Layer, TextFault};
 
+// It is not the `Refused` of an outcome, where a buffer that is too short for reading a text is the text's.
 /// The fault of the text or of the card, whole; a lent buffer that is too short is the card's.
 #[derive(Clone, Copy, PartialEq, Eq, Debug)]
 pub enum MarkFault {

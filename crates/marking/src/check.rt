@@ -59,6 +59,7 @@ pub fn check<S: CardSource>(
 {
     enough_slots(slots)?;
     let listing = list_formulas(specification, source, slots)?;
+    // Two calls, whose contracts say the two fields; a function for both would say the same once more.
     let terms = Terms {
         variables: Variables {
             environment: specification.environment_count(),

@@ -39,6 +39,7 @@ pub(crate) fn list_formulas<S: CardSource>(
     counts_right(source)?;
     entries_formed(
         source,
+        // Two calls, whose contracts say the two fields; a function for both would say the same once more.
         Variables {
             environment: specification.environment_count(),
             system: specification.system_count(),

@@ -1,4 +1,5 @@
-//! The lines of a text: header words, line ends and blank lines.
+//! The lines of a text: header words, line ends and blank lines. A text and a place in it are two parameters here, as in the lexer: unlike for a
+//! `Cursor` nothing has to be known of the place, so that a type for both would have nothing to say.
 ghost use Rattle.std.specs.Prelude.{◌≡◌, codes};
 ghost use Rattle.lexer.specs.Bounds.{then_ok};
 ghost use Rattle.grammar.specs.Sections.{blanks, header_in, third_begins, third_in};

@@ -58,6 +58,7 @@ fn covers_label<S: CardSource>(
     all_covered(records.len(), &label, &covered_by(records, rests))
 }
 
+// Records and the marks of rests go together here and are no one value: the records are the card's, the rests one move's.
 /// Closed, at the end: the rests hold false.
 fn holds_false(records: &[FormulaRecord], rests: &[bool; 1024]) -> bool
     ensures { (c : RawCard) → TellsStep closed c records.now rests.now end result }
