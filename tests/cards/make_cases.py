@@ -6,24 +6,21 @@ crate `worked_cards` proves of it; the outcomes of the others were worked out by
 """
 import pathlib
 import shutil
-import struct
 
-from limits import LIMITS
+from limits import END, FALSE, LIMITS, TRUE, Draft, literal, text
 from second_marker import mark
 
 TOP = pathlib.Path(__file__).resolve().parents[2]
 CRATES = TOP / "crates"
 P, S = 0, 16  # the variables p_e and s
-END = 65535
-FALSE, TRUE = (0, 0, 0, 0, 0, 0), (1, 0, 0, 0, 0, 0)
 
 
 def of(variable):
-    return (2, variable, 0, 0, 0, 0)
+    return literal(variable)
 
 
 def not_of(variable):
-    return (3, variable, 0, 0, 0, 0)
+    return literal(variable, False)
 
 
 def conj(a, b):
@@ -47,22 +44,12 @@ def eventually(n, m, a):
 
 
 def card(kind, formulas, labels, nodes, moves):
-    """The bytes of a card file. Nodes: first label, labels, first move, moves. Moves: input mask and values, reply mask and values, target."""
-    lists = [
-        [struct.pack("<BBHHHH", *f) for f in [FALSE, TRUE, *formulas]],
-        [struct.pack("<H", label) for label in labels],
-        [struct.pack("<HHHH", *node) for node in nodes],
-        [struct.pack("<HHHHH", *move) for move in moves],
-    ]
-    trailer, at = [], 0
-    for entries in lists:
-        trailer += [at, len(entries)]
-        at += len(b"".join(entries))
-    return b"".join(b"".join(entries) for entries in lists) + struct.pack("<10H", *trailer, kind, 20)
+    """The bytes of a card file; false and true come first."""
+    return Draft(kind, [FALSE, TRUE, *formulas], labels, nodes, moves).file()
 
 
 def rules(safety):
-    return b"Initial Formula\nTrue\nSafety Formula\n" + safety + b"\nEnvironment Global Constraints\nTrue\n"
+    return text(b"True", safety)
 
 
 OPEN, CLOSED = 1, 2
@@ -121,9 +108,9 @@ def main():
     (TOP / "samples" / "gate.card").write_bytes(GATE)
     sample = ("gate", "gate", (TOP / "samples" / "gate.rules").read_bytes(), GATE, "realizable nodes 2 moves 4")
     worked = [(name, name, rules(safety), file, line) for name, safety, file, line in CASES + OTHERS]
-    for text_name, name, text, file, line in [*worked, sample, *LIMITS]:
-        assert mark(text, file) == line, (name, mark(text, file), line)
-        (data / f"{text_name}.rules").write_bytes(text)
+    for text_name, name, rules_text, file, line in [*worked, sample, *LIMITS]:
+        assert mark(rules_text, file) == line, (name, mark(rules_text, file), line)
+        (data / f"{text_name}.rules").write_bytes(rules_text)
         (data / f"{name}.card").write_bytes(file)
         pairs.append(f"{text_name}.rules {name}.card\n")
         out += [f"case {text_name}.rules {name}.card", line]
