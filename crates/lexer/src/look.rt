@@ -1,5 +1,5 @@
 //! The token at a place of a text.
-ghost use Rattle.std.specs.Prelude.{◌≡◌, Bool, ◌+◌, ◌-◌, ◌*◌, ◌≤◌, min, length, slice_index};
+ghost use Rattle.std.specs.Prelude.{◌≡◌, Bool, ◌+◌, ◌-◌, ◌*◌, ◌≤◌, min, length, drop, slice_index};
 ghost use Rattle.std.specs.Str.{bytes_eq};
 ghost use Rattle.lexer.specs.Lexer.{is_in, run, part, numeral, word_token, symbol_token, symbol_length, look_at, Sees};
 
@@ -26,12 +26,19 @@ impl Class {
     }
 }
 
-/// How many bytes of one class stand from `from` on; past the text there are none.
+/// The bytes from `from` on; past the text there are none.
+fn rest(text: &[u8], from: usize) -> &[u8]
+    ensures { result.now ≡ drop from text.now }
+{
+    &text[from.min(text.len())..]
+}
+
+/// How many bytes of one class stand from `from` on.
 fn run_len(text: &[u8], from: usize, class: Class) -> usize
     ensures { result ≡ run class text.now from }
 {
-    let rest = text.iter().skip(from);
-    rest.take_while(|byte| class.contains(**byte)).count()
+    let bytes = rest(text, from).iter();
+    bytes.take_while(|byte| class.contains(**byte)).count()
 }
 
 /// Where the run of bytes of one class that begins at `from` ends.
