@@ -9,26 +9,12 @@ use Rattle.records.specs.Raw.{RawCard, model}
 use Rattle.card.specs.Trailer.{read_file}
 use Rattle.rules.specs.Read.{View, reads_with}
 use Rattle.rules.specs.Laws.{game_of}
-use Rattle.judged.specs.Judged.{fault_of}
 use Rattle.marking.specs.Checks.{checks}
 use Rattle.outcome.specs.declared.Accepted.{Accepted}
 use Rattle.outcome.specs.declared.Accepted.TheVariants.{Realizable, Unrealizable}
 use Rattle.outcome.specs.declared.Refused.{Refused}
-use Rattle.outcome.specs.declared.Refused.TheVariants.{Text, Card}
-
--- a refusal: of the text, as it is read, or of the card, by the judge's numbers
-pub data Refusal : Type 0 where
-  of_text : ReadFault → Refusal
-  of_card : Fault → Refusal
-
-abbrev pub refusal : Refused → Refusal
-refusal (Text f) = of_text f
-refusal (Card f) = of_card (fault_of f)
-
--- an outcome with its refusal so
-abbrev pub marked : Result Accepted Refused → Result Accepted Refusal
-marked (Ok a) = Ok a
-marked (Err r) = Err (refusal r)
+use Rattle.outcome.specs.declared.Refused.TheVariants.{Card}
+use Rattle.outcome.specs.Refusals.{text_refusal, card_refusal}
 
 -- an accepted card with a verdict, a depth, so many nodes and so many moves
 abbrev pub accepted_as : Verdict → ℕ → ℕ → ℕ → Accepted
@@ -36,26 +22,26 @@ accepted_as realizable depth nodes moves = Realizable nodes moves
 accepted_as unrealizable depth nodes moves = Unrealizable nodes moves depth
 
 -- the answer of the check of a card
-abbrev pub checked_card : RawCard → Result (Verdict × ℕ) Fault → Result Accepted Refusal
+abbrev pub checked_card : RawCard → Result (Verdict × ℕ) Fault → Result Accepted Refused
 checked_card c (Ok r) = Ok (accepted_as r.0 r.1 (length c.nodes) (length c.moves))
-checked_card c (Err e) = Err (of_card e)
+checked_card c (Err e) = Err (Card e.number e.list e.place)
 
 -- a card is checked with so many slots
-abbrev pub marks_card : ℕ → Spec → RawCard → Result Accepted Refusal
+abbrev pub marks_card : ℕ → Spec → RawCard → Result Accepted Refused
 marks_card records spec c = checked_card c (checks records spec (model c))
 
 -- a file is opened, and its card checked
-abbrev pub opened_file : ℕ → Spec → Result RawCard CardFault → Result Accepted Refusal
+abbrev pub opened_file : ℕ → Spec → Result RawCard CardFault → Result Accepted Refused
 opened_file records spec (Ok c) = marks_card records spec c
-opened_file records spec (Err f) = Err (of_card (fault_of f))
+opened_file records spec (Err f) = Err (card_refusal f)
 
-abbrev pub marks_file : ℕ → Spec → List ℕ → Result Accepted Refusal
+abbrev pub marks_file : ℕ → Spec → List ℕ → Result Accepted Refused
 marks_file records spec bytes = opened_file records spec (read_file bytes)
 
 -- the text is read first
-abbrev pub read_text : ℕ → List ℕ → Result View ReadFault → Result Accepted Refusal
+abbrev pub read_text : ℕ → List ℕ → Result View ReadFault → Result Accepted Refused
 read_text records bytes (Ok v) = marks_file records (game_of v) bytes
-read_text records bytes (Err f) = Err (of_text f)
+read_text records bytes (Err f) = Err (text_refusal f)
 
-abbrev pub marks_text : ℕ → ℕ → ℕ → List ℕ → List ℕ → Result Accepted Refusal
+abbrev pub marks_text : ℕ → ℕ → ℕ → List ℕ → List ℕ → Result Accepted Refused
 marks_text names formulas records text bytes = read_text records bytes (reads_with names formulas text)

@@ -7,7 +7,7 @@ ghost use Rattle.rules.specs.Shown.{view};
 ghost use Rattle.records.specs.Raw.{model};
 ghost use Rattle.marking.specs.Checks.{checks};
 ghost use Rattle.marking.specs.Verdicts.{verdict_named};
-ghost use Rattle.marker.specs.Marks.{accepted_as, marked, marks_card, marks_file, marks_text};
+ghost use Rattle.marker.specs.Marks.{accepted_as, marks_card, marks_file, marks_text};
 
 use card::file::FileSource;
 use card::source::CardSource;
@@ -51,7 +51,7 @@ pub fn mark_card<S: CardSource>(
     source: &S,
     records: &mut [Slot<FormulaKey>],
 ) -> Outcome
-    ensures { marked result ≡ marks_card (length records.old) (game_of (view specification.now)) (S.card source.now) }
+    ensures { result ≡ marks_card (length records.old) (game_of (view specification.now)) (S.card source.now) }
 {
     let marked = check(specification, source, records)?;
     Ok(accepted(marked, source.node_count(), source.move_count()))
@@ -63,7 +63,7 @@ pub fn mark_file(
     bytes: &[u8],
     records: &mut [Slot<FormulaKey>],
 ) -> Outcome
-    ensures { marked result ≡ marks_file (length records.old) (game_of (view specification.now)) bytes.now }
+    ensures { result ≡ marks_file (length records.old) (game_of (view specification.now)) bytes.now }
 {
     let source = FileSource::open(bytes)?;
     mark_card(specification, &source, records)
@@ -78,7 +78,7 @@ pub fn mark(
     formulas: &mut [Slot<Formula>],
     records: &mut [Slot<FormulaKey>],
 ) -> Outcome
-    ensures { marked result ≡ marks_text (length names.old) (length formulas.old) (length records.old) text.now bytes.now }
+    ensures { result ≡ marks_text (length names.old) (length formulas.old) (length records.old) text.now bytes.now }
 {
     let specification = read(text, names, formulas)?;
     mark_file(&specification, bytes, records)

@@ -1,7 +1,5 @@
 -- The line that shows an outcome, its line end (byte 10) included.
 use Rattle.std.specs.Prelude.{ℕ, List, [], ◌∷◌, ◌++◌, codes, decimal, Ok, Err, Result}
-use Rattle.faults.specs.Numbers.{fault_number, fault_place}
-use Rattle.faults.specs.Cards.{card_fault_number, card_fault_list, card_fault_place}
 use Rattle.outcome.specs.declared.Accepted.{Accepted}
 use Rattle.outcome.specs.declared.Accepted.TheVariants.{Realizable, Unrealizable}
 use Rattle.outcome.specs.declared.Refused.{Refused}
@@ -15,12 +13,10 @@ accepted_line (Realizable nodes moves) = codes "realizable nodes " ++ decimal no
 accepted_line (Unrealizable nodes moves depth) =
     codes "unrealizable nodes " ++ decimal nodes ++ codes " moves " ++ decimal moves ++ codes " depth " ++ decimal depth ++ line_end
 
--- a lent buffer that is too short is shown as a byte or a place too: the buffer's number
 abbrev pub refused_line : Refused → List ℕ
-refused_line (Text f) = codes "refused " ++ decimal (fault_number f) ++ codes " byte " ++ decimal (fault_place f) ++ line_end
-refused_line (Card f) =
-    codes "refused " ++ decimal (card_fault_number f) ++ codes " list " ++ decimal (card_fault_list f) ++ codes " number " ++ decimal (card_fault_place f)
-    ++ line_end
+refused_line (Text number byte) = codes "refused " ++ decimal number ++ codes " byte " ++ decimal byte ++ line_end
+refused_line (Card number list place) =
+    codes "refused " ++ decimal number ++ codes " list " ++ decimal list ++ codes " number " ++ decimal place ++ line_end
 
 abbrev pub outcome_line : Result Accepted Refused → List ℕ
 outcome_line (Ok a) = accepted_line a

@@ -1,5 +1,6 @@
 //! The line of an outcome.
 ghost use Rattle.std.specs.Prelude.{◌≡◌, ◌≤◌, ◌++◌, length, codes, decimal};
+ghost use Rattle.outcome.specs.declared.Refused.TheVariants.{Text, Card};
 ghost use Rattle.outcome.specs.Lines.{accepted_line, outcome_line, refused_line};
 
 use crate::{Accepted, Outcome, Refused};
@@ -20,7 +21,8 @@ fn counts(verdict: &[u8], nodes: u16, moves: u16) -> Line
 
 /// The line of an accepted card.
 fn accepted_line(accepted: Accepted) -> Line
-    ensures { result ≡ accepted_line accepted }
+    ensures value { result ≡ accepted_line accepted }
+    ensures bound { length result ≤ 64 }
 {
     match accepted {
         Accepted::Realizable { nodes, moves } => {
@@ -37,32 +39,54 @@ fn accepted_line(accepted: Accepted) -> Line
     }
 }
 
-// A text alone is explained by a line without the line end, in a crate that knows no cards; so this is not that function.
-/// The line of a refused text or card. A lent buffer that is too short is shown as a byte or a place too: the buffer's number.
+// A text alone is explained by a line without the line end, in a crate that knows no cards; so this is not the `refused_line` there.
+/// The line of a refused text.
+fn text_refused(number: u8, byte: usize) -> Line
+    ensures value { result ≡ refused_line (Text number byte) }
+    ensures bound { length result ≤ 64 }
+{
+    Line::new()
+        .with_bytes(b"refused ")
+        .with_number(number as usize)
+        .with_bytes(b" byte ")
+        .with_number(byte)
+        .with_bytes(b"\n")
+}
+
+/// The line of a refused card.
+fn card_refused(number: u8, list: u8, place: usize) -> Line
+    ensures value { result ≡ refused_line (Card number list place) }
+    ensures bound { length result ≤ 64 }
+{
+    Line::new()
+        .with_bytes(b"refused ")
+        .with_number(number as usize)
+        .with_bytes(b" list ")
+        .with_number(list as usize)
+        .with_bytes(b" number ")
+        .with_number(place)
+        .with_bytes(b"\n")
+}
+
+/// The line of a refused text or card.
 fn refused_line(refused: Refused) -> Line
-    ensures { result ≡ refused_line refused }
+    ensures value { result ≡ refused_line refused }
+    ensures bound { length result ≤ 64 }
 {
     match refused {
-        Refused::Text(fault) => Line::new()
-            .with_bytes(b"refused ")
-            .with_number(fault.number() as usize)
-            .with_bytes(b" byte ")
-            .with_number(fault.place())
-            .with_bytes(b"\n"),
-        Refused::Card(card_fault) => Line::new()
-            .with_bytes(b"refused ")
-            .with_number(card_fault.number() as usize)
-            .with_bytes(b" list ")
-            .with_number(card_fault.list() as usize)
-            .with_bytes(b" number ")
-            .with_number(card_fault.place())
-            .with_bytes(b"\n"),
+        Refused::Text { number, byte } => text_refused(number, byte),
+        Refused::Card {
+            number,
+            list,
+            place,
+        } => card_refused(number, list, place),
     }
 }
 
 /// The line that shows an outcome, its line end included.
 pub fn line(outcome: Outcome) -> Line
-    ensures { result ≡ outcome_line outcome }
+    ensures value { result ≡ outcome_line outcome }
+    ensures bound { length result ≤ 64 }
 {
     match outcome {
         Ok(accepted) => accepted_line(accepted),
