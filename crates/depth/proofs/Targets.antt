@@ -1,7 +1,13 @@
 -- The loop over the moves of a node: what was found and what is left give the deepest target.
-use Rattle.std.proofs.Common.{◌≡◌, ℕ, suc, ◌+◌, ◌-◌, ◌<◌, max, sym, ap, ◌∙◌, arith}
+use Rattle.std.proofs.Common.{◌≡◌, ℕ, zero, suc, ◌+◌, ◌-◌, ◌<◌, ◌≤◌, max, length, None, sym, refl, ap, ◌∙◌, arith}
+use Rattle.std.specs.List.{slice_get}
+use Rattle.std.proofs.lemmas.List.{get_or_past}
+use Rattle.tableau.specs.Moves.{Move, no_move}
 use Rattle.tableau.specs.Card.{Card, move_at}
 use Rattle.tableau.specs.Judge.{target_depth}
+use Rattle.records.specs.Raw.{RawCard, model}
+use Rattle.card.proofs.Walk.{length_none}
+use Rattle.card.proofs.Model.{model_moves}
 use Rattle.depth.specs.Deepest.{deepest_from}
 
 -- ── the list of moves ──
@@ -17,4 +23,19 @@ pub targets_more : (c : Card) (d : ℕ → ℕ) (count first k found t more all 
     → max more (deepest_from c d (count - (k + 1)) (first + (k + 1))) ≡ all
 targets_more c d count first k found t more all l e large inv =
     let n = from_next c d (count - k) (count - (k + 1)) (first + k) (first + (k + 1)) (omega arith) (omega arith) in
+    omega arith
+
+-- the list has no more moves: those that are left lead to the end
+past : (c : RawCard) (d : ℕ → ℕ) (left i : ℕ) → length c.moves ≤ i → deepest_from (model c) d left i ≡ 0
+past c d zero i h = refl
+past c d (suc left) i h =
+    let m : move_at (model c) i ≡ no_move = get_or_past (model c).moves i no_move (omega (arith, model_moves c)) in
+    let u : target_depth d (move_at (model c) i).target ≡ 0 = ap (λ (x : Move). target_depth d x.target) m in
+    let r = past c d left (suc i) (omega arith) in
+    omega arith
+
+pub targets_past : (c : RawCard) (d : ℕ → ℕ) (left i found all : ℕ) → None ≡ slice_get c.moves i
+    → max found (deepest_from (model c) d left i) ≡ all → found ≡ all
+targets_past c d left i found all e inv =
+    let p = past c d left i (length_none c.moves i e) in
     omega arith

@@ -8,7 +8,7 @@ ghost use Rattle.card.specs.Named.{target_named};
 ghost use Rattle.depth.specs.Descending.{Descending};
 ghost use Rattle.depth.specs.Deepest.{held_depth, deepest_from};
 
-use card::entries::{Target, move_of, node_of, target_of};
+use card::entries::{Target, node_of, target_of};
 use card::source::CardSource;
 use records::NodeRecord;
 
@@ -52,9 +52,12 @@ fn deepest_target<S: CardSource>(source: &S, node: NodeRecord, depths: &[u16; 10
 {
     let first = node.first_move as usize;
     let mut deepest = 0;
-    // Past the list's end the default entry counts, which an iterator over the list would not give.
     for k in 0..node.move_count as usize {
-        let target = target_of(move_of(source, first + k));
+        // Past the list's end every move leads to the end, which counts 0: none of these is looked at.
+        let Some(taken) = source.move_at(first + k) else {
+            break;
+        };
+        let target = target_of(taken);
         deepest = deeper(deepest, target_depth(depths, target));
     }
     deepest
