@@ -27,12 +27,13 @@ fn range_includes(outer: FormulaRecord, inner: FormulaRecord) -> bool
 pub(crate) fn covers_range(held: FormulaRecord, other: FormulaRecord) -> bool
     ensures { result ≡ covers_range held other }
 {
-    if held.a != other.a {
+    // Of each pair the numbers of the kinds are compared, and only a pair of one kind and body is named.
+    if held.kind != other.kind || held.a != other.a {
         return false;
     }
-    match (Formula::try_from(held), Formula::try_from(other)) {
-        (Ok(Formula::Always(..)), Ok(Formula::Always(..))) => range_includes(held, other),
-        (Ok(Formula::Eventually(..)), Ok(Formula::Eventually(..))) => range_includes(other, held),
+    match Formula::try_from(held) {
+        Ok(Formula::Always(..)) => range_includes(held, other),
+        Ok(Formula::Eventually(..)) => range_includes(other, held),
         _ => false,
     }
 }
