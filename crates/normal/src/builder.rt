@@ -47,6 +47,7 @@ fn literal(sign: bool, variable: u8) -> Formula
 
 impl Builder {
     // The slots are lent anew to each call: what ties them to the list stands in `Ready`, and cannot stand in the type.
+    // The nodes with their constants are lent too: a copy for each call that passes them on would make the frames of the descent larger.
 
     /// A list of the constants alone, which the slots index.
     pub fn new(slots: &mut [Slot<Formula>]) -> Builder
@@ -119,14 +120,14 @@ impl Builder {
     #[cycle(binary_build_enter_equivalence_pair_unary)]
     pub fn enter(
         &mut self,
-        known: KnownNodes<'_>,
+        known: &KnownNodes<'_>,
         slots: &mut [Slot<Formula>],
         operand: Operand,
     ) -> Option<u16>
-        requires within { operand.node < length known.nodes.now }
-        requires ready { Ready known.nodes.now slots.old self.old }
-        ensures { Enters known.entry.nodes.now slots.new self.old
-            (formula_of known.entry.nodes.now operand)
+        requires within { operand.node < length known.now.nodes.now }
+        requires ready { Ready known.now.nodes.now slots.old self.old }
+        ensures { Enters known.now.nodes.now slots.new self.old
+            (formula_of known.now.nodes.now operand)
             self.new result }
     {
         if let Some(x) = known.constant(operand) {
@@ -144,15 +145,15 @@ impl Builder {
     #[cycle(binary_build_enter_equivalence_pair_unary)]
     fn build(
         &mut self,
-        known: KnownNodes<'_>,
+        known: &KnownNodes<'_>,
         slots: &mut [Slot<Formula>],
         operand: Operand,
     ) -> Option<u16>
-        requires within { operand.node < length known.nodes.now }
-        requires ready { Ready known.nodes.now slots.old self.old }
-        requires varies { kind (formula_of known.nodes.now operand) ≡ other }
-        ensures { Enters known.entry.nodes.now slots.new self.old
-            (formula_of known.entry.nodes.now operand)
+        requires within { operand.node < length known.now.nodes.now }
+        requires ready { Ready known.now.nodes.now slots.old self.old }
+        requires varies { kind (formula_of known.now.nodes.now operand) ≡ other }
+        ensures { Enters known.now.nodes.now slots.new self.old
+            (formula_of known.now.nodes.now operand)
             self.new result }
     {
         let sign = operand.sign;
@@ -168,16 +169,16 @@ impl Builder {
     #[cycle(binary_build_enter_equivalence_pair_unary)]
     fn unary(
         &mut self,
-        known: KnownNodes<'_>,
+        known: &KnownNodes<'_>,
         slots: &mut [Slot<Formula>],
         prefix: Prefix,
         part: Operand,
     ) -> Option<u16>
-        requires within { part.node < length known.nodes.now }
-        requires ready { Ready known.nodes.now slots.old self.old }
-        requires varies { kind (unary_of known.nodes.now prefix part) ≡ other }
-        ensures { Enters known.entry.nodes.now slots.new self.old
-            (unary_of known.entry.nodes.now prefix part)
+        requires within { part.node < length known.now.nodes.now }
+        requires ready { Ready known.now.nodes.now slots.old self.old }
+        requires varies { kind (unary_of known.now.nodes.now prefix part) ≡ other }
+        ensures { Enters known.now.nodes.now slots.new self.old
+            (unary_of known.now.nodes.now prefix part)
             self.new result }
     {
         match prefix {
@@ -202,18 +203,18 @@ impl Builder {
     #[cycle(binary_build_enter_equivalence_pair_unary)]
     fn binary(
         &mut self,
-        known: KnownNodes<'_>,
+        known: &KnownNodes<'_>,
         slots: &mut [Slot<Formula>],
         connective: Connective,
         a: usize,
         b: usize,
         sign: bool,
     ) -> Option<u16>
-        requires first { a < length known.nodes.now }
-        requires second { b < length known.nodes.now }
-        requires ready { Ready known.nodes.now slots.old self.old }
-        ensures { Enters known.entry.nodes.now slots.new self.old
-            (binary_of known.entry.nodes.now connective a b sign)
+        requires first { a < length known.now.nodes.now }
+        requires second { b < length known.now.nodes.now }
+        requires ready { Ready known.now.nodes.now slots.old self.old }
+        ensures { Enters known.now.nodes.now slots.new self.old
+            (binary_of known.now.nodes.now connective a b sign)
             self.new result }
     {
         let p = Operand { node: a, sign };
@@ -232,17 +233,17 @@ impl Builder {
     #[cycle(binary_build_enter_equivalence_pair_unary)]
     fn pair(
         &mut self,
-        known: KnownNodes<'_>,
+        known: &KnownNodes<'_>,
         slots: &mut [Slot<Formula>],
         junction: Junction,
         a: Operand,
         b: Operand,
     ) -> Option<u16>
-        requires first { a.node < length known.nodes.now }
-        requires second { b.node < length known.nodes.now }
-        requires ready { Ready known.nodes.now slots.old self.old }
-        ensures { Enters known.entry.nodes.now slots.new self.old
-            (joined_by junction (formula_of known.entry.nodes.now a) (formula_of known.entry.nodes.now b))
+        requires first { a.node < length known.now.nodes.now }
+        requires second { b.node < length known.now.nodes.now }
+        requires ready { Ready known.now.nodes.now slots.old self.old }
+        ensures { Enters known.now.nodes.now slots.new self.old
+            (joined_by junction (formula_of known.now.nodes.now a) (formula_of known.now.nodes.now b))
             self.new result }
     {
         match plan_for(junction, known.constant(a), known.constant(b)) {
@@ -262,17 +263,17 @@ impl Builder {
     #[cycle(binary_build_enter_equivalence_pair_unary)]
     fn equivalence(
         &mut self,
-        known: KnownNodes<'_>,
+        known: &KnownNodes<'_>,
         slots: &mut [Slot<Formula>],
         a: usize,
         b: usize,
         sign: bool,
     ) -> Option<u16>
-        requires first { a < length known.nodes.now }
-        requires second { b < length known.nodes.now }
-        requires ready { Ready known.nodes.now slots.old self.old }
-        ensures { Enters known.entry.nodes.now slots.new self.old
-            (equivalence_of known.entry.nodes.now a b sign)
+        requires first { a < length known.now.nodes.now }
+        requires second { b < length known.now.nodes.now }
+        requires ready { Ready known.now.nodes.now slots.old self.old }
+        ensures { Enters known.now.nodes.now slots.new self.old
+            (equivalence_of known.now.nodes.now a b sign)
             self.new result }
     {
         let p = Operand {

@@ -18,9 +18,9 @@ pub struct KnownNodes<'a> {
 
 impl KnownNodes<'_> {
     /// The constant that an operand's normal form is, if any.
-    pub(crate) fn constant(self, operand: Operand) -> Option<bool>
-        requires { operand.node < length self.nodes.now }
-        ensures { result ≡ known (kind (formula_of self.entry.nodes.now operand)) }
+    pub(crate) fn constant(&self, operand: Operand) -> Option<bool>
+        requires { operand.node < length self.now.nodes.now }
+        ensures { result ≡ known (kind (formula_of self.now.nodes.now operand)) }
     {
         let constant = read(self.constants, operand.node);
         if operand.sign {

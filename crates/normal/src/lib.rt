@@ -35,7 +35,7 @@ fn list_of(syntax: &Syntax, slots: &mut [Slot<Formula>]) -> Option<Formulas>
     };
     let mut builder = Builder::new(slots);
     let first = builder.enter(
-        known,
+        &known,
         slots,
         Operand {
             node: syntax.initial,
@@ -43,7 +43,7 @@ fn list_of(syntax: &Syntax, slots: &mut [Slot<Formula>]) -> Option<Formulas>
         },
     )?;
     let second = builder.enter(
-        known,
+        &known,
         slots,
         Operand {
             node: syntax.safety,

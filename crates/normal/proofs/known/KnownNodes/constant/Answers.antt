@@ -6,12 +6,12 @@ use Rattle.normal.proofs.known.KnownNodes.constant.Goals as goal
 pub returns-then-operand : goal.returns-then-operand
 returns-then-operand c =
     let o = c.args.operand in
-    c.read-constant.ensures ∙ ap (λ s. signed_by s (get_or c.args.self.constants.now o.node None)) (sym c.if-operand.true)
-    ∙ signed_is c.args.self.given o c.requires
+    c.read-constant.ensures ∙ ap (λ s. signed_by s (get_or c.args.self.now.constants.now o.node None)) (sym c.if-operand.true)
+    ∙ signed_is c.args.self.now.given o c.requires
 
 pub returns-else-operand : goal.returns-else-operand
 returns-else-operand c =
     let o = c.args.operand in
-    let xs = c.args.self.constants.now in
+    let xs = c.args.self.now.constants.now in
     c.opposite.ensures ∙ ap opposite c.read-constant.ensures ∙ ap (λ s. signed_by s (get_or xs o.node None)) (sym c.if-operand.false)
-    ∙ signed_is c.args.self.given o c.requires
+    ∙ signed_is c.args.self.now.given o c.requires
