@@ -13,12 +13,18 @@ use nodes::node::{Connective, Node};
 
 impl Reader {
     // The slots are lent anew to each call: what ties them to the names stands in `Ready`, and cannot stand in the type.
+    // The cursor is lent too: a copy for each call that passes it on would make the frames of the descent larger.
 
     /// A formula up to unary operators.
     #[cycle(arrow_chain_operand_unary)]
-    fn unary(&mut self, slots: &mut [Slot<Name>], from: Cursor, left: u8) -> Result<Part, TextFault>
-        requires { Ready slots.old self.old from.at }
-        ensures { ReadsBy 0 (unary_with left) from.entry self.old self.new slots.new result }
+    fn unary(
+        &mut self,
+        slots: &mut [Slot<Name>],
+        from: &Cursor<'_>,
+        left: u8,
+    ) -> Result<Part, TextFault>
+        requires { Ready slots.old self.old from.now.at }
+        ensures { ReadsBy 0 (unary_with left) from.now self.old self.new slots.new result }
     {
         let text = from.text;
         let seen = look(text, from.at);
@@ -30,13 +36,13 @@ impl Reader {
                 let left = deeper(left, seen)?;
                 let prefixed = read_prefix(text, operator, seen.next)?;
                 let at = prefixed.next;
-                let part = self.unary(slots, Cursor { text, at }, left)?;
+                let part = self.unary(slots, &Cursor { text, at }, left)?;
                 Ok(self.push(Node::Unary(prefixed.prefix, part.root), part.next))
             }
             Head::Group => {
                 let left = deeper(left, seen)?;
                 let at = seen.next;
-                let part = self.arrow(Connective::Equivalent, slots, Cursor { text, at }, left)?;
+                let part = self.arrow(Connective::Equivalent, slots, &Cursor { text, at }, left)?;
                 let close = look(text, part.next);
                 let next = close.expect(close.token.is_symbol(Symbol::Close))?;
                 Ok(Part { next, ..part })
@@ -51,11 +57,11 @@ impl Reader {
         &mut self,
         of: Connective,
         slots: &mut [Slot<Name>],
-        from: Cursor,
+        from: &Cursor<'_>,
         left: u8,
     ) -> Result<Part, TextFault>
-        requires { Ready slots.old self.old from.at }
-        ensures { ReadsBy 0 (operand_with left of) from.entry self.old self.new slots.new result }
+        requires { Ready slots.old self.old from.now.at }
+        ensures { ReadsBy 0 (operand_with left of) from.now self.old self.new slots.new result }
     {
         match of {
             Connective::And => self.unary(slots, from, left),
@@ -71,11 +77,11 @@ impl Reader {
         &mut self,
         by: Connective,
         slots: &mut [Slot<Name>],
-        from: Cursor,
+        from: &Cursor<'_>,
         left: u8,
     ) -> Result<Part, TextFault>
-        requires { Ready slots.old self.old from.at }
-        ensures { ReadsBy 0 (chain_with left by) from.entry self.old self.new slots.new result }
+        requires { Ready slots.old self.old from.now.at }
+        ensures { ReadsBy 0 (chain_with left by) from.now self.old self.new slots.new result }
     {
         let text = from.text;
         let mut part = self.operand(by, slots, from, left)?;
@@ -86,7 +92,7 @@ impl Reader {
                 return Ok(part);
             }
             let at = seen.next;
-            let right = self.operand(by, slots, Cursor { text, at }, left)?;
+            let right = self.operand(by, slots, &Cursor { text, at }, left)?;
             part = self.join(by, part, right);
         }
     }
@@ -97,11 +103,11 @@ impl Reader {
         &mut self,
         by: Connective,
         slots: &mut [Slot<Name>],
-        from: Cursor,
+        from: &Cursor<'_>,
         left: u8,
     ) -> Result<Part, TextFault>
-        requires { Ready slots.old self.old from.at }
-        ensures { ReadsBy 0 (arrow_with left by) from.entry self.old self.new slots.new result }
+        requires { Ready slots.old self.old from.now.at }
+        ensures { ReadsBy 0 (arrow_with left by) from.now self.old self.new slots.new result }
     {
         let text = from.text;
         let part = self.operand(by, slots, from, left)?;
@@ -111,7 +117,7 @@ impl Reader {
         }
         let left = deeper(left, seen)?;
         let at = seen.next;
-        let right = self.arrow(Connective::Implies, slots, Cursor { text, at }, left)?;
+        let right = self.arrow(Connective::Implies, slots, &Cursor { text, at }, left)?;
         Ok(self.join(by, part, right))
     }
 }

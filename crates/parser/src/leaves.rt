@@ -66,11 +66,11 @@ impl Reader {
     pub(crate) fn variable(
         &mut self,
         slots: &mut [Slot<Name>],
-        from: Cursor,
+        from: &Cursor<'_>,
         seen: Lexeme,
     ) -> Result<Part, TextFault>
-        requires { (Ready slots.old self.old from.at) × (Ahead from.text.now from.at seen) }
-        ensures { ReadsBy 0 (variable_with seen) from.entry self.old self.new slots.new result }
+        requires { (Ready slots.old self.old from.now.at) × (Ahead from.now.text.now from.now.at seen) }
+        ensures { ReadsBy 0 (variable_with seen) from.now self.old self.new slots.new result }
     {
         let name = name_at(from.text, seen);
         let variable = self

@@ -19,7 +19,7 @@ impl Reader {
     {
         let text = from.text;
         let at = skip_lines(text, from.at);
-        let part = self.arrow(Connective::Equivalent, slots, Cursor { text, at }, 32)?;
+        let part = self.arrow(Connective::Equivalent, slots, &Cursor { text, at }, 32)?;
         let next = expect_line(text, part.next)?;
         Ok(Part { next, ..part })
     }
