@@ -49,7 +49,8 @@ pub fn parse(text: &[u8], slots: &mut [Slot<Name>]) -> Result<Parsed, Fault>
     clear(slots);
     let outcome = read(text, slots);
     clear(slots);
-    outcome.map_err(Fault::Text)
+    // By `map_err` or a `match` the large value would be filled and copied once more for each text.
+    Ok(outcome?)
 }
 
 #[cfg(test)]
