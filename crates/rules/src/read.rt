@@ -29,7 +29,12 @@ pub fn read(
     if !enough(formulas) {
         return Err(Fault::Short(Buffer::Index));
     }
-    let parsed = parse(text, names)?;
+    // The large value stays where it is: `?` would fill and copy it once more for each text.
+    let outcome = parse(text, names);
+    let parsed = match &outcome {
+        Ok(parsed) => parsed,
+        Err(fault) => return Err(*fault),
+    };
     let formulas = normalize(&parsed.syntax, formulas).map_err(|_| TextFault {
         reason: Reason::Formulas,
         place: text.len(),
