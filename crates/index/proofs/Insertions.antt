@@ -4,10 +4,10 @@ use Rattle.std.specs.List.{slice_get}
 use Rattle.std.proofs.lemmas.List.Sums.{sum_by-cons, sum_by-set, count_by-le-length}
 use Rattle.std.proofs.lemmas.Option.{get_or_from_slice_get, slice_get_within}
 use Rattle.std.proofs.lemmas.Bool.{cases_eq}
-use Rattle.index.specs.declared.Entry.{Entry}
+use Rattle.index.specs.declared.entry.Entry.{Entry}
 use Rattle.index.specs.declared.Slot.{Slot}
 use Rattle.index.specs.Keyed.{place, home, slot_of, free_slot, Held, AllHeld, filled, Reached, Indexed, VacantAt, Inserted, Extends, OneInsertion, Along, StopsAt, StopsNowhere}
-use Rattle.index.proofs.Probes.{slots_apart, same_slot, free_not_held, three, back, back_lt, back_place, nth_one, nth_set_same, nth_set_other, nth_append_left, nth_append_at, nth_append_cases}
+use Rattle.index.proofs.Probes.{slot_held, slots_apart, same_slot, free_not_held, three, back, back_lt, back_place, nth_one, nth_set_same, nth_set_other, nth_append_left, nth_append_at, nth_append_cases}
 
 -- the number of filled slots, one more
 filled_set
@@ -35,7 +35,7 @@ filled_all {K} (x ∷ xs) h =
 filled_lt : {K : Type 0} (slots : List (Slot K)) (p : ℕ) → slice_get slots p ≡ Some free_slot → (k : K) → filled slots < length slots
 filled_lt {K} slots p e k =
     let v : Slot K = slot_of k 0 in
-    let more : filled (set slots p v) ≡ filled slots + 1 = filled_set slots p v e refl in
+    let more : filled (set slots p v) ≡ filled slots + 1 = filled_set slots p v e (slot_held k 0 (omega arith)) in
     omega (arith, more, count_by-le-length (λ (s : Slot K). is_some s.held) (set slots p v), length-set slots p v)
 
 -- all places from a home held: as many as there are
@@ -77,13 +77,14 @@ reach_kept
 reach_kept {K} code n slots p v i k hv free r =
     record {
       far = r.far;
+      numbered = r.numbered;
       near = r.near;
       here = nth_set_other slots p (place n (code k % n) r.far) v apart ∙ r.here;
       way = λ e t lt at. kept_held slots p v (place n (code k % n) e) hv (λ u q. r.way e u lt q) t at;
     }
   where
     apart : place n (code k % n) r.far ≡ p → ⊥
-    apart q = slots_apart k i (nth_one slots (place n (code k % n) r.far) p (slot_of k i) free_slot q r.here free)
+    apart q = slots_apart k i r.numbered (nth_one slots (place n (code k % n) r.far) p (slot_of k i) free_slot q r.here free)
 
 pub entered
     : {K : Type 0} (code : K → ℕ) (slots : List (Slot K)) (ks : List K) (k : K) (p m : ℕ)
@@ -95,16 +96,22 @@ pub entered
 entered {K} code slots ks k p m va ix is few =
     record {
       few = simp length-append (omega (arith, is, few));
-      count = filled_set slots p (slot_of k m) va.here refl ∙ simp length-append (omega (arith, ix.count));
+      count = filled_set slots p (slot_of k m) va.here held ∙ simp length-append (omega (arith, ix.count));
       sound = sound';
       reach = λ i q at.
           subst (λ n. Reached code n (set slots p (slot_of k m)) i q) (sym (length-set slots p (slot_of k m)))
           (⊎_elim
-          (λ old. reach_kept code (length slots) slots p (slot_of k m) i q refl va.here (ix.reach i q old))
+          (λ old. reach_kept code (length slots) slots p (slot_of k m) i q held va.here (ix.reach i q old))
           (λ new. subst (λ (x : K). Reached code (length slots) (set slots p (slot_of k m)) i x) new.1 (newly i new.0))
           (nth_append_cases ks k q i at));
     }
   where
+    small : m < 65535
+    small = omega (arith, few)
+
+    held : Held (slot_of k m)
+    held = slot_held k m small
+
     within : p < length slots
     within = slice_get_within slots p free_slot va.here
 
@@ -112,20 +119,21 @@ entered {K} code slots ks k p m va ix is few =
     newly i e =
         record {
           far = va.far;
+          numbered = omega (arith, e, is, few);
           near = va.near;
           here = ap (slice_get (set slots p (slot_of k m))) (sym va.is) ∙ nth_set_same slots p (slot_of k m) within
               ∙ ap (λ j. Some (slot_of k j)) (is ∙ sym e);
-          way = λ d t lt at. kept_held slots p (slot_of k m) (place (length slots) (code k % length slots) d) refl (λ u q. va.way d u lt q) t at;
+          way = λ d t lt at. kept_held slots p (slot_of k m) (place (length slots) (code k % length slots) d) held (λ u q. va.way d u lt q) t at;
         }
 
-    sound' : (j i : ℕ) (q : K) → slice_get (set slots p (slot_of k m)) j ≡ Some (slot_of q i) → slice_get (ks ++ k ∷ []) i ≡ Some q
-    sound' j i q at =
+    sound' : (j i : ℕ) (q : K) → i < 65535 → slice_get (set slots p (slot_of k m)) j ≡ Some (slot_of q i) → slice_get (ks ++ k ∷ []) i ≡ Some q
+    sound' j i q less at =
         ⊎_elim
         (λ (e : j ≡ p).
-        let same = same_slot k q m i
+        let same = same_slot k q m i small less
         (nth_one (set slots p (slot_of k m)) p j (slot_of k m) (slot_of q i) (sym e) (nth_set_same slots p (slot_of k m) within) at) in
         ap (slice_get (ks ++ k ∷ [])) (sym same.1 ∙ is) ∙ nth_append_at ks k ∙ ap Some same.0)
-        (λ ne. nth_append_left ks (k ∷ []) i q (ix.sound j i q (sym (nth_set_other slots p j (slot_of k m) ne) ∙ at)))
+        (λ ne. nth_append_left ks (k ∷ []) i q (ix.sound j i q less (sym (nth_set_other slots p j (slot_of k m) ne) ∙ at)))
         (cases_eq j p)
 
 -- an insertion of the next number extends the list of keys
@@ -184,7 +192,7 @@ freed_indexed {K} code n =
     record {
       few = omega arith;
       count = filled_freed K n;
-      sound = λ j i k at. absurd (slots_apart k i (freed_free n j (slot_of k i) at));
+      sound = λ j i k small at. absurd (slots_apart k i small (freed_free n j (slot_of k i) at));
       reach = λ i k at. absurd (omega (arith, slice_get_within [] i k at));
     }
 

@@ -2,10 +2,10 @@
 use Rattle.std.proofs.Common.{◌≡◌, ◌≢◌, ℕ, ◌<◌, Bool, true, false, Decides, List, length, Some, None, Option, sym, refl, ap, ◌∙◌, subst, inl, inr, ⊎_elim, arith}
 use Rattle.std.specs.List.{slice_get}
 use Rattle.std.specs.Option.{option_map, IfSome, IsSomeAnd}
-use Rattle.index.specs.declared.Entry.{Entry}
+use Rattle.index.specs.declared.entry.Entry.{Entry}
 use Rattle.index.specs.declared.Slot.{Slot}
 use Rattle.index.specs.Keyed.{place, home, slot_of, free_slot, Passed, Reached, Indexed, NotIn, Found, Hit, FreeAt, Miss, Looked, OneLookup, Along, FreeOrHolds, StopsAt, StopsNowhere}
-use Rattle.index.proofs.Probes.{slots_apart, same_slot, free_not_held, three, same_place, nth_one}
+use Rattle.index.proofs.Probes.{slot_is, slot_holds, slots_apart, same_slot, free_not_held, three, same_place, nth_one}
 
 -- an index that reaches the key by a slot within the passed ones is refuted
 not_passed
@@ -14,7 +14,7 @@ not_passed
     → (r : Reached code (length slots) slots i k)
     → r.far < d
     → ⊥
-not_passed code slots k d i ps r lt = ps r.far (slot_of k i) lt r.here refl
+not_passed code slots k d i ps r lt = slot_holds k i r.numbered (ps r.far (slot_of k i) lt r.here)
 
 -- a key that the passed slots lack is not in the list, where the next slot is free
 none_at_free
@@ -28,7 +28,7 @@ none_at_free {K} code slots ks k d ix ps f i at =
     ⊎_elim (λ lt. not_passed code slots k d i ps r lt)
     (⊎_elim
     (λ (q : r.far ≡ d).
-    slots_apart k i (same_place slots (home code (length slots) k) r.far d _ _ q r.here f))
+    slots_apart k i r.numbered (same_place slots (home code (length slots) k) r.far d _ _ q r.here f))
     (λ gt. free_not_held K (r.way d free_slot gt f)))
     (three r.far d)
 
@@ -52,17 +52,17 @@ pub looked_found
     → Found ks k r
 looked_found code slots k None m ks ix =
     ⊎_elim (λ e. none_at_all code slots ks k m.far ix m.way e) (λ f. none_at_free code slots ks k m.far ix m.way f) m.stop
-looked_found code slots k (Some i) h ks ix = ix.sound _ i k h.here
+looked_found code slots k (Some i) h ks ix = ix.sound _ i k h.numbered h.here
 
 -- a hit and a miss exclude each other
 hit_miss : {K : Type 0} (code : K → ℕ) (slots : List (Slot K)) (k : K) (i : ℕ) → Hit code slots k i → Miss code slots k → ⊥
 hit_miss {K} code slots k i a m =
-    ⊎_elim (λ lt. m.way a.far (slot_of k i) lt a.here refl)
+    ⊎_elim (λ lt. slot_holds k i a.numbered (m.way a.far (slot_of k i) lt a.here))
     (⊎_elim
     (λ (q : a.far ≡ m.far).
     ⊎_elim (λ e. omega (arith, a.near, e, q))
     (λ (f : FreeAt slots (home code (length slots) k) m.far).
-    slots_apart k i (same_place slots (home code (length slots) k) a.far m.far _ _ q a.here f))
+    slots_apart k i a.numbered (same_place slots (home code (length slots) k) a.far m.far _ _ q a.here f))
     m.stop)
     (λ gt.
     ⊎_elim (λ e. omega (arith, a.near, e, gt)) (λ f. a.way m.far free_slot gt f) m.stop))
@@ -71,11 +71,11 @@ hit_miss {K} code slots k i a m =
 -- two hits have one number
 hit_hit : {K : Type 0} (code : K → ℕ) (slots : List (Slot K)) (k : K) (i j : ℕ) → Hit code slots k i → Hit code slots k j → i ≡ j
 hit_hit {K} code slots k i j a b =
-    ⊎_elim (λ lt. absurd (b.way a.far (slot_of k i) lt a.here refl))
+    ⊎_elim (λ lt. absurd (slot_holds k i a.numbered (b.way a.far (slot_of k i) lt a.here)))
     (⊎_elim
     (λ (q : a.far ≡ b.far).
-    (same_slot k k i j (same_place slots (home code (length slots) k) a.far b.far _ _ q a.here b.here)).1)
-    (λ gt. absurd (a.way b.far (slot_of k j) gt b.here refl)))
+    (same_slot k k i j a.numbered b.numbered (same_place slots (home code (length slots) k) a.far b.far _ _ q a.here b.here)).1)
+    (λ gt. absurd (slot_holds k j b.numbered (a.way b.far (slot_of k j) gt b.here))))
     (three a.far b.far)
 
 pub one_lookup : {K : Type 0} (code : K → ℕ) → OneLookup code
@@ -112,7 +112,11 @@ module _
       by None e h = record { far = a.far; way = passed a.far a.way; stop = inr (there ∙ ap (λ (o : Option (Entry K)). Some (record { held = o })) e) }
       by (Some x) e h = record {
         far = a.far;
+        numbered = x.numbered;
         near = a.near;
         way = passed a.far a.way;
-        here = there ∙ ap (λ (o : Option (Entry K)). Some (record { held = o })) (e ∙ ap (λ q. Some (record { key = q; number = x.number })) h);
+        here = there
+            ∙ ap (λ (o : Option (Entry K)). Some (record { held = o }))
+            (e ∙ ap (λ q. Some (record { key = q; number = x.number; numbered = x.numbered })) h)
+            ∙ ap Some (sym (slot_is k x.number x.numbered));
       }

@@ -1,5 +1,6 @@
 -- Places from a home, and lists read and written by place.
 use Rattle.std.proofs.Common.{◌≡◌, ℕ, zero, suc, ◌+◌, ◌-◌, ◌<◌, ◌≤◌, cond, ltb, ◌⊎◌, List, [], ◌∷◌, ◌++◌, length, get_or, set, Some, is_some, true, false, sym, refl, ap, ◌∙◌, subst, inl, inr, ⊎_elim, arith, length-append}
+use Rattle.std.specs.Coded.{le_prop}
 use Rattle.std.specs.List.{slice_get, range_with_len}
 use Rattle.std.specs.Iterator.Adapters.{chain_first, chain_second, chain_first_done, chain_second_done, chain_steps}
 use Rattle.std.specs.declared.iter.Chain.{Chain}
@@ -10,9 +11,10 @@ use Rattle.std.proofs.lemmas.Iterator.Consumers.{YieldsList-from_chain}
 use Rattle.std.proofs.lemmas.List.{get_or_append_left, get_or-append_right}
 use Rattle.std.proofs.lemmas.List.FromFn.{length-range_with_len, get_or-range_with_len}
 use Rattle.std.proofs.lemmas.Option.{same_Some}
-use Rattle.index.specs.declared.Entry.{Entry}
+use Rattle.std.proofs.Math.Decide.{dec_lt}
+use Rattle.index.specs.declared.entry.Entry.{Entry}
 use Rattle.index.specs.declared.Slot.{Slot}
-use Rattle.index.specs.Keyed.{Along, place, slot_of, free_slot, Held}
+use Rattle.index.specs.Keyed.{Along, place, slot_of, slot_under, free_slot, Held, HoldsOther}
 
 pub place_lt : (n h d : ℕ) → h < n → d < n → place n h d < n
 place_lt n h d hn dn = grind (arith, place)
@@ -119,15 +121,37 @@ nth_append_cases (z ∷ xs) x y (suc i) e =
 pub free_not_held : (K : Type 0) → Held (free_slot {K = K}) → ⊥
 free_not_held K h = let e : false ≡ true = h in absurd (cc)
 
-pub slots_apart : {K : Type 0} (k : K) (i : ℕ) → slot_of k i ≡ free_slot → ⊥
-slots_apart {K} k i e = free_not_held K (sym (ap (λ (s : Slot K). is_some s.held) e))
+-- the slot of a number that a key has holds the key with the number
+pub slot_is
+    : {K : Type 0} (k : K) (i : ℕ) (small : i < 65535)
+    → slot_of k i ≡ record { held = Some (record { key = k; number = i; numbered = small }) }
+slot_is {K} k i small = by (dec_lt i 65535)
+  where
+    by : (d : Dec (i < 65535)) → slot_under k i d ≡ record { held = Some (record { key = k; number = i; numbered = small }) }
+    by (yes less) =
+        ap (λ (p : i < 65535). record { held = Some (record { key = k; number = i; numbered = p }) }) (le_prop less small)
+    by (no large) = absurd (large small)
+
+-- the same of an entry
+pub slot_entered : {K : Type 0} (x : Entry K) → record { held = Some x } ≡ slot_of x.key x.number
+slot_entered x = sym (slot_is x.key x.number x.numbered)
+
+pub slot_held : {K : Type 0} (k : K) (i : ℕ) → i < 65535 → Held (slot_of k i)
+slot_held {K} k i small = ap (λ (s : Slot K). is_some s.held) (slot_is k i small)
+
+-- and no other key
+pub slot_holds : {K : Type 0} (k : K) (i : ℕ) → i < 65535 → HoldsOther k (slot_of k i) → ⊥
+slot_holds k i small other = subst (HoldsOther k) (slot_is k i small) other refl
+
+pub slots_apart : {K : Type 0} (k : K) (i : ℕ) → i < 65535 → slot_of k i ≡ free_slot → ⊥
+slots_apart {K} k i small e = free_not_held K (sym (ap (λ (s : Slot K). is_some s.held) e) ∙ slot_held k i small)
 
 -- slots that hold one key and number hold the same
-pub same_slot : {K : Type 0} (k q : K) (i j : ℕ) → slot_of k i ≡ slot_of q j → (k ≡ q) × (i ≡ j)
-same_slot {K} k q i j e =
-    let x : Entry K = record { key = k; number = i } in
-    let y : Entry K = record { key = q; number = j } in
-    let same : x ≡ y = same_Some x y (ap (λ (s : Slot K). s.held) e) in
+pub same_slot : {K : Type 0} (k q : K) (i j : ℕ) → i < 65535 → j < 65535 → slot_of k i ≡ slot_of q j → (k ≡ q) × (i ≡ j)
+same_slot {K} k q i j small less e =
+    let x : Entry K = record { key = k; number = i; numbered = small } in
+    let y : Entry K = record { key = q; number = j; numbered = less } in
+    let same : x ≡ y = same_Some x y (ap (λ (s : Slot K). s.held) (sym (slot_is k i small) ∙ e ∙ slot_is q j less)) in
     (ap (λ (z : Entry K). z.key) same, ap (λ (z : Entry K). z.number) same)
 
 -- a walk over the places from h to the end, and then over those before h

@@ -1,5 +1,6 @@
 -- What an index over slots holds, what a look-up answers, and what an insertion does.
 use Rattle.std.specs.Prelude.{◌≡◌, ℕ, ◌+◌, ◌-◌, ◌%◌, ◌<◌, Bool, true, false, cond, ◌⊎◌, List, [], ◌∷◌, ◌++◌, length, Some, None, Option, is_some, IsSome, IsSomeAnd, IfSome, ◌≢◌, nat_lt, slice_get, slice_set, count_by}
+use Rattle.std.proofs.Math.Decide.{dec_lt}
 use Rattle.index.specs.declared.Slot.{Slot}
 
 -- The places. Among n places, the d-th from home h, where the first follows the last (d is at most n).
@@ -10,13 +11,18 @@ place n h d = cond (nat_lt (h + d) n) (h + d) (h + d - n)
 abbrev pub home : {K : Type 0} → (K → ℕ) → ℕ → K → ℕ
 home code n k = code k % n
 
--- The slots. A slot that holds this key with this number.
-abbrev pub slot_of : {K : Type 0} → K → ℕ → Slot K
-slot_of k m = record { held = Some (record { key = k; number = m }) }
-
--- a slot that holds no key
+-- The slots. A slot that holds no key.
 abbrev pub free_slot : {K : Type 0} → Slot K
 free_slot = record { held = None }
+
+-- where the number is below 65,535, a slot that holds the key with it, and else a free one
+abbrev pub slot_under : {K : Type 0} → K → (m : ℕ) → Dec (m < 65535) → Slot K
+slot_under k m (yes small) = record { held = Some (record { key = k; number = m; numbered = small }) }
+slot_under k m (no large) = free_slot
+
+-- A slot that holds this key with this number. No key has the number 65,535: under it the slot is free.
+abbrev pub slot_of : {K : Type 0} → K → ℕ → Slot K
+slot_of k m = slot_under k m (dec_lt m 65535)
 
 -- a slot that holds a key
 abbrev pub Held : {K : Type 0} → Slot K → Type 0
@@ -49,6 +55,7 @@ Passed slots h k d = Along (HoldsOther k) (length slots) slots h d
 -- The model. The key numbered i is reached from its home, over slots that hold keys.
 pub record Reached {K : Type 0} (code : K → ℕ) (n : ℕ) (slots : List (Slot K)) (i : ℕ) (k : K) : Type 0 where
   pub far : ℕ
+  pub numbered : i < 65535
   pub near : far < n
   pub here : slice_get slots (place n (home code n k) far) ≡ Some (slot_of k i)
   pub way : AllHeld n slots (home code n k) far
@@ -61,7 +68,7 @@ pub record Reached {K : Type 0} (code : K → ℕ) (n : ℕ) (slots : List (Slot
 pub record Indexed {K : Type 0} (code : K → ℕ) (slots : List (Slot K)) (ks : List K) : Type 0 where
   pub few : length ks < 65535
   pub count : filled slots ≡ length ks
-  pub sound : (j i : ℕ) (k : K) → slice_get slots j ≡ Some (slot_of k i) → slice_get ks i ≡ Some k
+  pub sound : (j i : ℕ) (k : K) → i < 65535 → slice_get slots j ≡ Some (slot_of k i) → slice_get ks i ≡ Some k
   pub reach : (i : ℕ) (k : K) → slice_get ks i ≡ Some k → Reached code (length slots) slots i k
 
 -- no key of the list is k
@@ -73,9 +80,10 @@ abbrev pub Found : {K : Type 0} → List K → K → Option ℕ → Type 0
 Found ks k None = NotIn k ks
 Found ks k (Some i) = slice_get ks i ≡ Some k
 
--- The look-up. A hit: after `far` places that hold other keys stands a slot that holds k with the number i.
+-- The look-up. A hit: after `far` places that hold other keys stands a slot that holds k with the number i, which is not 65,535.
 pub record Hit {K : Type 0} (code : K → ℕ) (slots : List (Slot K)) (k : K) (i : ℕ) : Type 0 where
   pub far : ℕ
+  pub numbered : i < 65535
   pub near : far < length slots
   pub way : Passed slots (home code (length slots) k) k far
   pub here : slice_get slots (place (length slots) (home code (length slots) k) far) ≡ Some (slot_of k i)
@@ -108,7 +116,7 @@ pub record VacantAt {K : Type 0} (code : K → ℕ) (slots : List (Slot K)) (k :
   pub way : AllHeld (length slots) slots (home code (length slots) k) far
 
 -- What an insertion of k under the number m answers and leaves, whatever the slots hold: true, and the first free place from the
--- home of k holds k with m; or false, where every slot holds a key, and nothing is changed.
+-- home of k holds k with m (under 65,535 it stays free); or false, where every slot holds a key, and nothing is changed.
 abbrev pub Inserted : {K : Type 0} → (K → ℕ) → List (Slot K) → K → ℕ → Bool → List (Slot K) → Type 0
 Inserted code slots k m true after = (p : ℕ) × VacantAt code slots k p × (after ≡ slice_set slots p (slot_of k m))
 Inserted code slots k m false after = (filled slots ≡ length slots) × (after ≡ slots)

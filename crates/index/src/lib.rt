@@ -7,12 +7,9 @@ ghost use Rattle.std.specs.Prelude.{◌≡◌, ℕ, T as True, Decides, List, []
 ghost use Rattle.std.specs.Fn.{FnReturnsAt};
 ghost use Rattle.index.specs.Keyed.{Extends, Found, FreeOrHolds, Indexed, Inserted, Looked, OneInsertion, OneLookup, Probed, Refuses, free_slot, slot_of};
 
-/// A key with its number.
-#[derive(Clone, Copy)]
-pub struct Entry<K> {
-    pub key: K,
-    pub number: u16,
-}
+mod entry;
+
+pub use entry::{Entry, FREE};
 
 /// A slot holds a key with its number, or is free.
 #[derive(Clone, Copy)]
@@ -30,13 +27,18 @@ impl<K> Slot<K> {
     {
         Slot { held: None }
     }
+}
 
-    /// A slot that holds the key with this number.
+impl<K: Drop> Slot<K> {
+    /// A slot that holds the key with this number; under the number `FREE`, which no key has, a free slot.
     pub fn holding(key: K, number: u16) -> Slot<K>
         ensures { result ≡ slot_of key number }
     {
-        Slot {
-            held: Some(Entry { key, number }),
+        match number {
+            FREE => Slot::free(),
+            _ => Slot {
+                held: Some(Entry { key, number }),
+            },
         }
     }
 }
@@ -174,6 +176,16 @@ mod tests {
         clear(&mut slots);
         assert!(rt; !insert(&mut slots, Small(2), 0));
         assert_eq!(rt; find(&slots, &Small(2)), None);
+    }
+
+    // What is entered under 65,535 is not held, and its slot stays free.
+    #[test]
+    fn no_key_has_the_number_65535(rt: HostRuntime) {
+        let mut slots = [Slot::free(); 1];
+        clear(&mut slots);
+        assert!(rt; insert(&mut slots, Small(1), 65_535));
+        assert_eq!(rt; find(&slots, &Small(1)), None);
+        assert!(rt; insert(&mut slots, Small(2), 0));
     }
 
     // One slot fewer than a table needs.
