@@ -33,7 +33,8 @@ pub(crate) fn of_bounds(operator: &[u8], n: u16, m: u16, part: u16) -> Line
 /// One line of a list: what it lists, the number, and the text.
 pub(crate) fn of_item(kind: &[u8], number: usize, text: &[u8]) -> Line
     requires { (length kind.now ≤ 12) × (length text.now ≤ 20) }
-    ensures { result ≡ kind.now ++ decimal number ++ codes " " ++ text.now }
+    ensures text { result ≡ kind.now ++ decimal number ++ codes " " ++ text.now }
+    ensures short { length result ≤ 64 }
 {
     Line::new()
         .with_bytes(kind)
@@ -45,7 +46,8 @@ pub(crate) fn of_item(kind: &[u8], number: usize, text: &[u8]) -> Line
 /// A word and a number.
 pub(crate) fn of_number(kind: &[u8], number: usize) -> Line
     requires { length kind.now ≤ 12 }
-    ensures { result ≡ kind.now ++ decimal number }
+    ensures text { result ≡ kind.now ++ decimal number }
+    ensures short { length result ≤ 64 }
 {
     Line::new().with_bytes(kind).with_number(number)
 }

@@ -1,5 +1,5 @@
 //! All lines in order.
-ghost use Rattle.std.specs.Prelude.{◌≡◌};
+ghost use Rattle.std.specs.Prelude.{◌≡◌, ◌≤◌, length, IfSome};
 ghost use Rattle.std.specs.List.{slice_get};
 ghost use Rattle.rules.specs.Shown.{view, view_result};
 ghost use Rattle.explanation.specs.Explanation.{explanation, refused_line, specification_lines};
@@ -11,7 +11,8 @@ use rules::specification::Specification;
 
 /// A line of how a specification was read, or none past the last.
 fn specification_line(specification: &Specification, n: usize) -> Option<Line>
-    ensures { result ≡ slice_get (specification_lines (view specification.now)) n }
+    ensures text { result ≡ slice_get (specification_lines (view specification.now)) n }
+    ensures short { IfSome result (λ l. length l ≤ 64) }
 {
     let Some(after_environment) = n.checked_sub(specification.environment_count()) else {
         return environment_at(specification, n);
@@ -27,7 +28,8 @@ fn specification_line(specification: &Specification, n: usize) -> Option<Line>
 
 /// The line of a refused text.
 fn refused_line(fault: Fault) -> Line
-    ensures { result ≡ refused_line fault }
+    ensures text { result ≡ refused_line fault }
+    ensures short { length result ≤ 64 }
 {
     Line::new()
         .with_bytes(b"refused ")
@@ -38,7 +40,8 @@ fn refused_line(fault: Fault) -> Line
 
 /// A line of the explanation of how a text was read, or none past the last.
 pub fn line(reading: &Result<Specification, Fault>, n: usize) -> Option<Line>
-    ensures { result ≡ slice_get (explanation (view_result reading.now)) n }
+    ensures text { result ≡ slice_get (explanation (view_result reading.now)) n }
+    ensures short { IfSome result (λ l. length l ≤ 64) }
 {
     match reading {
         Ok(specification) => specification_line(specification, n),
