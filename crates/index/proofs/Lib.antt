@@ -1,3 +1,4 @@
 pub mod Probes
 pub mod Lookups
 pub mod Insertions
+pub mod Halves

@@ -13,6 +13,8 @@ use index::{Slot, find};
 use records::FormulaRecord;
 
 /// The number of a listed record.
+// Copied, as are the rests below that are so marked, since where they are used the record's kind is known and most fields are 0.
+#[inline(always)]
 pub fn listed(slots: &[Slot<FormulaKey>], formula: FormulaRecord) -> Option<u16>
     ensures { Listed slots.now formula result }
 {
@@ -38,6 +40,7 @@ fn joined(slots: &[Slot<FormulaKey>], junction: Junction, x: u16, y: u16) -> Opt
 }
 
 /// Two answers joined; none where one is none.
+#[inline(always)]
 fn joined_both(
     slots: &[Slot<FormulaKey>],
     junction: Junction,
@@ -50,6 +53,7 @@ fn joined_both(
 }
 
 /// The rest of X[n] of entry a.
+#[inline(always)]
 fn rest_of_next(slots: &[Slot<FormulaKey>], n: u16, a: u16) -> Option<u16>
     ensures { RestOfNext slots.now a n result }
 {
