@@ -37,15 +37,15 @@ pub fn index_formulas(
 {
     clear(slots);
     for (i, formula) in records.iter().enumerate() {
-        // No card has so many formulas that this fails, and of a longer list nothing is promised.
-        let Ok(number) = u16::try_from(i) else {
+        // No card has more formulas, and of a longer list nothing is promised.
+        if i >= 1024 {
             break;
-        };
+        }
         let key = FormulaKey { formula: *formula };
         if find(slots, &key).is_some() {
             return Err(equal_formula(i));
         }
-        insert(slots, key, number);
+        insert(slots, key, i as u16);
     }
     Ok(())
 }

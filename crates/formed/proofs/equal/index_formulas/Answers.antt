@@ -1,13 +1,13 @@
 -- A record that the index has already is not new; any other is entered, and the slots then index one record more.
-use Rattle.std.proofs.Common.{ℕ, ◌<◌, ◌≤◌, List, map, length, take, sym, refl, subst, arith}
+use Rattle.std.proofs.Common.{◌<◌, ◌≤◌, List, map, length, take, sym, refl, subst, arith}
 use Rattle.std.proofs.lemmas.List.{take_all}
 use Rattle.tableau.specs.Conditions.{new_formula}
-use Rattle.index.specs.Keyed.{Indexed, Extends}
+use Rattle.index.specs.Keyed.{Indexed}
 use Rattle.records.specs.declared.FormulaRecord.{FormulaRecord}
 use Rattle.rested.specs.Listing.{key_of, key_code}
 use Rattle.formed.specs.Conditions.{equal_at}
 use Rattle.formed.proofs.Rows.{left_pass, left_fail, left_end}
-use Rattle.formed.proofs.Entered.{record_at, new_missing, old_found, entered_more}
+use Rattle.formed.proofs.Entered.{new_missing, old_found, entered_more}
 use Rattle.formed.proofs.equal.index_formulas.Goals as goal
 
 pub loop-i-preserved : goal.loop-i-preserved
@@ -21,8 +21,7 @@ loop-i-preserved c = λ few room.
     let found = c.find.ensures.model (map key_of (take i rs)) inv.1 in (
       λ spec card e. left_pass new_formula (length rs) spec card i (inv.0 spec card e) l
           (new_missing rs i l spec card e c.find.result found (sym c.if-is_some.ensures)),
-      entered_more rs i l slots c.insert.new.slots c.insert.result (omega arith) wide inv.1
-          (subst (λ (n : ℕ). Extends key_code slots (key_of (record_at rs i l)) n c.insert.result c.insert.new.slots) c.in-Ok.ensures.1 c.insert.ensures.model),
+      entered_more rs i l slots c.insert.new.slots c.insert.result (omega arith) wide inv.1 c.insert.ensures.model,
     )
 
 pub returns-then-is_some : goal.returns-then-is_some
