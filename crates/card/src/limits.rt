@@ -39,15 +39,36 @@ pub(crate) fn kind_right(kind: u16) -> bool
     (1..=2).contains(&kind)
 }
 
+/// The first count of a card that is outside its limits, or else the kind, by the number of its field in a file's trailer.
+pub fn wrong_count<S: CardSource>(source: &S) -> Option<usize>
+    ensures { result ≡ wrong_count (S.card source.now) }
+{
+    if !formulas_right(source.formula_count()) {
+        return Some(1);
+    }
+    if !labels_right(source.label_count()) {
+        return Some(3);
+    }
+    if !nodes_right(source.node_count()) {
+        return Some(5);
+    }
+    if !moves_right(source.move_count()) {
+        return Some(7);
+    }
+    if !kind_right(source.kind()) {
+        return Some(8);
+    }
+    None
+}
+
 /// Refuses a card for the first count that is outside its limits, or else for the kind, by the number of its field in a file's trailer.
 pub fn check_counts<S: CardSource>(source: &S) -> Result<(), CardFault>
     ensures { result ≡ refused_field (wrong_count (S.card source.now)) }
 {
-    require(formulas_right(source.formula_count()), 1)?;
-    require(labels_right(source.label_count()), 3)?;
-    require(nodes_right(source.node_count()), 5)?;
-    require(moves_right(source.move_count()), 7)?;
-    require(kind_right(source.kind()), 8)
+    match wrong_count(source) {
+        None => Ok(()),
+        Some(field) => Err(trailer_fault(field)),
+    }
 }
 
 /// Refuses a field of the trailer unless its test passed.
