@@ -1,6 +1,7 @@
 -- Conditions at single places, from what the code asked and computed.
 use Rattle.std.proofs.Common.{◌≡◌, ℕ, ◌<◌, Bool, true, false, not, eqb, List, [], ◌∷◌, length, IsErrAnd, Some, None, Ok, Err, Option, Result, sym, refl, ap, ◌∙◌, subst, arith, eq-eqb, eqb-true}
-use Rattle.std.specs.Option.{ok_or}
+use denote.Ref.{Bor}
+use Rattle.std.specs.Option.{ok_or, option_copied}
 use Rattle.temporal.specs.Formula.{Formula, bot, Reading, same}
 use Rattle.temporal.specs.Game.{Spec}
 use Rattle.temporal.proofs.Same.{same_sound}
@@ -47,6 +48,13 @@ pub some_passed : {A : Type 0} (o : Option A) (r : Result A CardFault) (u : Card
 some_passed {A} None r u x p q =
     let h : ◌≡◌ {A = Result A CardFault} (Err u) (Ok x) = sym p ∙ q in let z : ◌≡◌ {A = ℕ} 0 1 = cc in absurd (omega arith)
 some_passed {A} (Some y) r u x p q = let h : ◌≡◌ {A = Result A CardFault} (Ok y) (Ok x) = sym p ∙ q in let k : y ≡ x = cc in ap Some k
+
+-- what was handed on by reference
+pub none_lent : {A : Type 0} (o : Option (Bor A)) (w : Option A) → option_copied o ≡ w → o ≡ None → w ≡ None
+none_lent o w p q = sym p ∙ ap (λ r. option_copied r) q
+
+pub some_lent : {A : Type 0} (o : Option (Bor A)) (w : Option A) (x : Bor A) → option_copied o ≡ w → o ≡ Some x → w ≡ Some x.now
+some_lent o w x p q = sym p ∙ ap (λ r. option_copied r) q
 
 -- a refusal by its fault
 pub refused : (e f : CardFault) → e ≡ f → ◌≡◌ {A = Result (Unit {0}) Fault} (Err (fault_of e)) (Err (fault_of f))

@@ -1,25 +1,27 @@
 -- What is known of a card when its root and its nodes are judged, and what judging them answers.
-use Rattle.std.specs.Prelude.{◌≡◌, ℕ, ◌<◌, ◌≤◌, Bool, true, List, [], ◌∷◌, map, length, Result}
+use Rattle.std.specs.Prelude.{◌≡◌, ℕ, ◌<◌, ◌≤◌, Bool, true, List, [], ◌∷◌, map, length, Option, Result}
 use Rattle.temporal.specs.Formula.{top}
 use Rattle.temporal.specs.Game.{Spec}
 use Rattle.tableau.specs.Lists.{span, concat_map}
 use Rattle.tableau.specs.Card.{kind_of, node_at, move_at}
-use Rattle.tableau.specs.Conditions.{label_kept, covering_kept, target_kept, at_move, at_node, at_nodes, obligations}
+use Rattle.tableau.specs.Conditions.{reading_of, label_kept, covering_kept, target_kept, at_move, at_node, at_nodes, obligations}
 use Rattle.tableau.specs.Form.{move_formed}
 use Rattle.tableau.specs.Acceptable.{NodeFormed}
 use Rattle.faults.specs.declared.card.CardFault.{CardFault}
 use Rattle.index.specs.declared.Slot.{Slot}
 use Rattle.records.specs.declared.FormulaRecord.{FormulaRecord}
 use Rattle.records.specs.declared.NodeRecord.{NodeRecord}
-use Rattle.records.specs.Raw.{RawCard, model, node_of}
+use Rattle.records.specs.declared.MoveRecord.{MoveRecord}
+use Rattle.records.specs.Raw.{RawCard, model, move_of, node_of}
 use Rattle.records.specs.Table.{Listed, formula_of}
 use Rattle.covered.specs.Meaning.{Members}
 use Rattle.rested.specs.declared.key.FormulaKey.{FormulaKey}
 use Rattle.rested.specs.Listing.{Ready}
+use Rattle.rested.specs.Rests.{AllRested}
 use Rattle.card.specs.declared.entries.Kind.{Kind}
 use Rattle.card.specs.Named.{kind_named}
 use Rattle.card.specs.Variables.{HasVariables}
-use Rattle.steps.specs.Sets.{Labelled}
+use Rattle.steps.specs.Sets.{Labelled, TakesRests}
 use Rattle.judged.specs.Judged.{Judges}
 use Rattle.coverings.specs.Coverings.{Ready as Splitting}
 use Rattle.marking.specs.declared.terms.Terms.{Terms}
@@ -45,6 +47,11 @@ pub record Prepared (spec : Spec) (c : RawCard) (kind : Kind) (rs : List Formula
   pub kinds : kind_named kind ≡ kind_of (model c)
   pub members : Members rs (obligations spec (model c) n) ms
   pub listed : Listed rs (obligations spec (model c) n)
+
+-- the rests of what is marked, taken by a move's reading from a memo of the rest of each record
+abbrev pub RestsBy : Kind → List FormulaRecord → List (Slot FormulaKey) → List Bool → MoveRecord → Option (List Bool) → Type 0
+RestsBy kind rs slots ms m r =
+    (memo : List (Option ℕ)) × (Ready rs slots → AllRested (reading_of (kind_named kind) (move_of m)) rs memo) × TakesRests (length rs) memo ms r
 
 -- rests and step of move m are judged
 abbrev pub JudgesMove : RawCard → Kind → List FormulaRecord → List (Slot FormulaKey) → List Bool → ℕ → Result (Unit {0}) CardFault → Type 0

@@ -1,5 +1,5 @@
 //! Judging the nodes of a card.
-ghost use Rattle.marking.specs.Nodes.{JudgesCovering, JudgesLabels, JudgesMove, JudgesMoves, JudgesNode, JudgesNodes, JudgesTargets};
+ghost use Rattle.marking.specs.Nodes.{JudgesCovering, JudgesLabels, JudgesMove, JudgesMoves, JudgesNode, JudgesNodes, JudgesTargets, RestsBy};
 
 use crate::leaves::{label_kept, refused, target_kept};
 use crate::terms::Terms;
@@ -8,7 +8,7 @@ use card::entry::all_entries;
 use card::source::CardSource;
 use coverings::covering::covering_kept;
 use faults::card::{CardFault, CardList, CardReason};
-use records::NodeRecord;
+use records::{MoveRecord, NodeRecord};
 use steps::kept::{rests_by, step_kept};
 use steps::sets::{obligation_marks, rest_marks};
 
@@ -47,6 +47,19 @@ fn judge_targets<S: CardSource>(
     Ok(())
 }
 
+/// The rests of what is marked, by the reading of a move; none where one of them is not listed.
+fn rests_of(terms: &Terms, marks: &[bool; 1024], taken: MoveRecord) -> Option<[bool; 1024]>
+    ensures { RestsBy terms.now.kind terms.now.records.now terms.now.slots.now marks.now taken result }
+{
+    // In a function of its own: as a local of `judge_move` the memo of all rests, 4 KiB, is filled and copied more often for each move.
+    let records = terms.records;
+    rest_marks(
+        records.len(),
+        &rests_by(terms.kind, records, terms.slots, taken),
+        marks,
+    )
+}
+
 /// Judges the rests and the step of a move, where the marks are those of what its node has to keep: its label and the safety formula.
 fn judge_move<S: CardSource>(
     source: &S,
@@ -57,10 +70,10 @@ fn judge_move<S: CardSource>(
     ensures { JudgesMove (S.card source.now) terms.now.kind terms.now.records.now terms.now.slots.now marks.now number result }
 {
     let taken = move_of(source, number);
-    let memo = rests_by(terms.kind, terms.records, terms.slots, taken);
     let unlisted = refused(CardReason::Missing, CardList::Moves, number);
-    let rests = rest_marks(terms.records.len(), &memo, marks).ok_or(unlisted)?;
-    if !step_kept(source, terms.kind, terms.records, &rests, target_of(taken)) {
+    let rests = rests_of(terms, marks, taken);
+    let rests = rests.as_ref().ok_or(unlisted)?;
+    if !step_kept(source, terms.kind, terms.records, rests, target_of(taken)) {
         return Err(refused(CardReason::Step, CardList::Moves, number));
     }
     Ok(())
